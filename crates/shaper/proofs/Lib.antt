@@ -1,0 +1,7 @@
+pub mod Integers
+pub mod Machine
+pub mod ExactTime
+pub mod Soundness
+pub mod Judging
+pub mod Fresh
+pub mod Natural

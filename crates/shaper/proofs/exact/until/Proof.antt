@@ -1,0 +1,65 @@
+-- `shaper::exact::until` meets its contract: whole ticks, or one tick borrowed. Assumes nothing.
+use borrow.Author.Needs.{needs}
+use mathlib.Core.Path.{_≡_}
+use Prim.Native.Nat.{ℕ, _+_, _-_}
+use native.Mathlib.Omega.{arith}
+use mir.Syntax.{w64}
+use mir.Val.{SFits}
+use mir.Facts.{toZ-ofZ}
+use Rattle.shaper.specs.ExactTime.{orZero}
+use Rattle.shaper.specs.Steps.{spanTime}
+use Rattle.shaper.proofs.ExactTime.{reach, within, within-more}
+use Rattle.shaper.proofs.exact.until.Statement.{statement}
+use Rattle.shaper.proofs.exact.until.Tie as tie
+
+clipped-requires : tie.Need-clipped-requires
+clipped-requires c κs = search needs
+
+whole : (c : tie.After-clipped) → c .clipped .result ≡ orZero (c .before .before .args .m .ticks)
+whole c =
+    let f : SFits w64 (c .before .before .args .m .ticks) = record { sfits = c .before .struct-told .given .0 .1 } in
+    rw (toZ-ofZ f) at (c .clipped .ensures)
+
+sub-t9 : tie.Need-sub-t9
+sub-t9 c =
+    let s = c .before .before .before in
+    omega (arith, whole (c .before), within (s .args .rate .0) (s .args .m) (s .pre .0 .1) (s .args .t .0) (omega arith) (s .pre .1))
+
+returns : tie.Need-returns
+unfolding spanTime
+returns c =
+    let s = c .before .before .before in
+    let n = c .before .clipped .result in
+    record {
+      exact = reach (s .args .rate .0) (s .args .m) (s .pre .0 .1) (s .args .t .0) (s .args .t .0 - n) 0 0 (omega (arith, whole (c .before), sub-t9 c)) (omega arith);
+      over = omega arith;
+      most = omega arith;
+    }
+
+sub-t10 : tie.Need-sub-t10
+sub-t10 c =
+    let s = c .before .before .before in
+    omega (arith, whole (c .before), within (s .args .rate .0) (s .args .m) (s .pre .0 .1) (s .args .t .0) (omega arith) (s .pre .1))
+
+sub-t11 : tie.Need-sub-t11
+sub-t11 c =
+    let s = c .before .before .before in
+    omega (arith, whole (c .before), within-more (s .args .rate .0) (s .args .m) (s .pre .0 .1) (s .args .t .0) (omega arith) (s .pre .1))
+
+sub-t12 : tie.Need-sub-t12
+sub-t12 c = search needs
+
+returns-2 : tie.Need-returns-2
+unfolding spanTime
+returns-2 c =
+    let s = c .before .before .before in
+    let n = c .before .clipped .result in
+    record {
+      exact = reach (s .args .rate .0) (s .args .m) (s .pre .0 .1) (s .args .t .0) (s .args .t .0 - n - 1) (s .args .rate .0 - s .args .m .part) 1 (omega (arith, whole (c .before), sub-t11 c)) (omega arith);
+      over = omega arith;
+      most = omega arith;
+    }
+
+pub until-spec : {M : Type 1} → statement M
+until-spec =
+    tie.close (tie.spec clipped-requires sub-t9 returns sub-t10 sub-t11 sub-t12 returns-2)

@@ -1,0 +1,135 @@
+// Exact time: what a rate turns bits into, and sums of moments and spans with their remainders. Nothing is rounded but
+// by `first_tick`, once for each frame.
+use crate::Moment;
+use crate::Span;
+use quantity::Bits;
+use quantity::Rate;
+use quantity::Ticks;
+ghost use mathlib.Core.Path.{_≡_};
+ghost use mathlib.Core.Bool.{true, false};
+ghost use Prim.Native.Nat.{ℕ, _+_, _*_, _<_, _≤_, _^_};
+ghost use lib.IntN.{pos, negℤ, _+ℤ_};
+ghost use lib.Signed.{ltZ};
+ghost use Rattle.shaper.specs.ExactTime.{orZero, exactly, momentOf, roundedUp, bitTime};
+ghost use Rattle.shaper.specs.Steps.{shortfall, spanTime, Lasts, Later, Fills};
+
+// n ticks after a.
+fn raised(a: i64, n: u64) -> i64
+    requires { ⌜ orZero a + n < 2 ^ 63 ⌝ }
+    ensures { λ r. ⌜ r ≡ a +ℤ pos n ⌝ }
+{
+    a + (n as i64)
+}
+
+// n ticks before tick 0.
+fn lowered(n: u64) -> i64
+    requires { ⌜ n < 2 ^ 63 ⌝ }
+    ensures { λ r. ⌜ r ≡ negℤ (pos n) ⌝ }
+{
+    0 - (n as i64)
+}
+
+// a, or 0 where a is below 0.
+fn clipped(a: i64) -> u64
+    ensures { λ r. ⌜ r ≡ orZero a ⌝ }
+{
+    if a < 0 { 0 } else { a as u64 }
+}
+
+pub(crate) fn negative(a: i64) -> bool
+    ensures { λ r. ⌜ r ≡ ltZ a (pos 0) ⌝ }
+{
+    a < 0
+}
+
+// How long the bits take at the rate.
+pub(crate) fn lasting(bits: Bits, rate: Rate) -> Span
+    requires { ⌜ (bits .0 ≤ 16_000_000) × (0 < rate .0) ⌝ }
+    ensures { λ s. ⌜ Lasts (rate .0) (bits .0) s ⌝ }
+{
+    let parts = bits.0 * 1_000_000_000;
+    let r = rate.0;
+    Span {
+        ticks: parts / r,
+        part: parts % r,
+    }
+}
+
+// The moment that is a span after m.
+pub(crate) fn later(m: Moment, span: Span, rate: Rate) -> Moment
+    requires { ⌜ (m .part < rate .0) × ((span .part < rate .0) × (rate .0 < 2 ^ 63)) ⌝ }
+    requires { ⌜ orZero (m .ticks) + (span .ticks + 1) < 2 ^ 63 ⌝ }
+    ensures { λ x. ⌜ Later (rate .0) m (spanTime (rate .0) span) (span .ticks + 1) x ⌝ }
+{
+    let over = m.part + span.part;
+    let whole = span.ticks;
+    let r = rate.0;
+    if over < r {
+        Moment {
+            ticks: raised(m.ticks, whole),
+            part: over,
+        }
+    } else {
+        Moment {
+            ticks: raised(m.ticks, whole + 1),
+            part: over - r,
+        }
+    }
+}
+
+// The moment that is a span before tick 0.
+pub(crate) fn before_zero(span: Span, rate: Rate) -> Moment
+    requires { ⌜ (span .part < rate .0) × (span .ticks + 1 < 2 ^ 63) ⌝ }
+    ensures { λ m. ⌜ m ≡ momentOf (rate .0) (negℤ (pos (spanTime (rate .0) span))) ⌝ }
+{
+    let whole = span.ticks;
+    let part = span.part;
+    let r = rate.0;
+    if part == 0 {
+        return Moment {
+            ticks: lowered(whole),
+            part: 0,
+        };
+    }
+    Moment {
+        ticks: lowered(whole + 1),
+        part: r - part,
+    }
+}
+
+// The smallest whole tick, from 0 on, that is not below m: whatever the rate is, a remainder is less than a tick.
+pub(crate) fn first_tick(m: Moment) -> Ticks
+    ensures { λ t. ⌜ ((r : ℕ) → m .part < r → t .0 ≡ orZero (roundedUp r (exactly r m))) ⌝ }
+{
+    let whole = clipped(m.ticks);
+    let part = m.part;
+    if negative(m.ticks) {
+        return Ticks(0);
+    }
+    if part == 0 {
+        return Ticks(whole);
+    }
+    Ticks(whole + 1)
+}
+
+// How long it is from m, which is not below 0, to the tick t.
+pub(crate) fn until(m: Moment, t: Ticks, rate: Rate) -> Span
+    requires { ⌜ (m .part < rate .0) × (shortfall (m .ticks) ≡ 0) ⌝ }
+    requires { ⌜ orZero (exactly (rate .0) m) ≤ t .0 * rate .0 ⌝ }
+    ensures { λ s. ⌜ Fills (rate .0) m (t .0) s ⌝ }
+{
+    let from = clipped(m.ticks);
+    let part = m.part;
+    let to = t.0;
+    let r = rate.0;
+    if part == 0 {
+        return Span {
+            ticks: to - from,
+            part: 0,
+        };
+    }
+    Span {
+        ticks: to - from - 1,
+        part: r - part,
+    }
+}
