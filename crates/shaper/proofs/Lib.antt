@@ -1,3 +1,4 @@
+pub mod Charging
 pub mod Integers
 pub mod Machine
 pub mod ExactTime

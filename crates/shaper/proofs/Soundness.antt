@@ -168,10 +168,12 @@ sound-of s g ok =
     )
 
 -- ---- a sound regulator can be reckoned by
-pub full-below : (r G b : ℕ) (e : Moment) → BucketOk r G b e → shortfall (F (exactly r e) b) ≡ 0
+pub full-zero : (E : ℤ) (b : ℕ) → shortfall E ≤ orZero E + bitTime b → shortfall (F E b) ≡ 0
 unfolding F
-full-below r G b e ok =
-    not-negative (F (exactly r e) b) (is-not-lt (F (exactly r e) b) (pos 0) (omega (arith, sum (exactly r e) (pos (bitTime b)), ok .low)))
+full-zero E b h = not-negative (F E b) (is-not-lt (F E b) (pos 0) (omega (arith, sum E (pos (bitTime b)))))
+
+pub full-below : (r G b : ℕ) (e : Moment) → BucketOk r G b e → shortfall (F (exactly r e) b) ≡ 0
+full-below r G b e ok = full-zero (exactly r e) b (ok .low)
 
 pub works : (r G L : ℕ) (k : Regulator) → leastOf StreamRate ≤ r → r ≤ mostOf StreamRate → G ≤ latestRelease → soundRegulator r G k ≡ true → aboveBurst k L ≡ false → Works r k L
 unfolding Works aboveBurst

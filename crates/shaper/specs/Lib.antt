@@ -4,4 +4,5 @@ pub mod Frame
 pub mod Sound
 pub mod SetUp
 pub mod Numbers
+pub mod Figures
 pub mod Steps
