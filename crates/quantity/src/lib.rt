@@ -75,7 +75,7 @@ pub const MOST_LINE_FREE: u64 = 5_000_000_000_000_000_000;
 pub const MOST_LIST_PLACES: u64 = 65_536;
 
 // The low end of an item's range.
-pub fn least(item: Item) -> u64
+fn least(item: Item) -> u64
     ensures { λ r. ⌜ r ≡ leastOf item ⌝ }
 {
     match item {
@@ -97,7 +97,7 @@ pub fn least(item: Item) -> u64
 }
 
 // The high end of an item's range.
-pub fn most(item: Item) -> u64
+fn most(item: Item) -> u64
     ensures { λ r. ⌜ r ≡ mostOf item ⌝ }
 {
     match item {
