@@ -44,12 +44,14 @@ fn later_of(a: Ticks, b: Ticks) -> Ticks
     if a.0 < b.0 { b } else { a }
 }
 
-fn is_set_up(regulator: Regulator) -> bool
+// Whether a stream is set up.
+pub fn is_set_up(regulator: Regulator) -> bool
     ensures { λ r. ⌜ r ≡ isSetUp regulator ⌝ }
 {
-    match regulator {
-        Regulator::Unset => false,
-        Regulator::Bucket { burst: _, empty: _ } => true,
+    if let Regulator::Unset = regulator {
+        false
+    } else {
+        true
     }
 }
 

@@ -8,6 +8,7 @@ mod sound;
 
 pub use frame::answer_number;
 pub use frame::charge;
+pub use frame::is_set_up;
 pub use frame::judge;
 use quantity::Bits;
 use quantity::Rate;

@@ -1,0 +1,64 @@
+-- `bridge::set_up_stream` meets its contract. Assumes nothing.
+use borrow.Author.Needs.{needs}
+use mathlib.Core.Path.{_∙_}
+use Prim.Native.Nat.{_<_}
+use native.Mathlib.Omega.{arith}
+use Rattle.bridge.proofs.Places.{group-below, stream-below, stream-call}
+use Rattle.bridge.proofs.set_up_stream.Statement.{statement}
+use Rattle.bridge.proofs.set_up_stream.Tie as tie
+
+stream-place-requires : tie.Need-stream-place-requires
+stream-place-requires c κs = search needs
+
+group-place-requires : tie.Need-group-place-requires
+group-place-requires c κs = search needs
+
+below : (c : tie.After-stream-place) → c .stream-place .result < 64
+below c = omega (arith, c .stream-place .ensures, stream-below (c .before .before .before .args .id))
+
+group-in : (c : tie.After-group-place) → c .group-place .result < 16
+group-in c = omega (arith, c .group-place .ensures, group-below (c .before .before .before .before .args .group))
+
+mul-place-stream : tie.Need-mul-place-stream
+mul-place-stream c = omega (arith, below (c .before))
+
+array-copy-out-place-stream : tie.Need-array-copy-out-place-stream
+array-copy-out-place-stream c = below (c .before)
+
+mul-place-stream-2 : tie.Need-mul-place-stream-2
+mul-place-stream-2 c = omega (arith, group-in (c .before))
+
+array-copy-out-place-stream-2 : tie.Need-array-copy-out-place-stream-2
+array-copy-out-place-stream-2 c = group-in (c .before)
+
+place-stream-requires : tie.Need-place-stream-requires
+place-stream-requires c κs = search needs
+
+mul-streams : tie.Need-mul-streams
+mul-streams c = omega (arith, below (c .before .before .before .before .before))
+
+array-set-from-streams : tie.Need-array-set-from-streams
+array-set-from-streams c = below (c .before .before .before .before .before)
+
+returns : tie.Need-returns
+returns c =
+    let q = c .before in
+    let k = q .before .before .before in
+    let p = k .before in
+    let a = p .before .before .before .args in
+    stream-call (a .bridge) (a .id) (a .group) (a .rate .0) (a .burst .0) (p .stream-place .result) (k .group-place .result) (p .stream-place .ensures) (k .group-place .ensures) (q .place-stream .result) (q .place-stream .ensures)
+
+pub set-up-stream-spec : {M : Type 1} → statement M
+set-up-stream-spec =
+    tie.close
+    (tie.spec
+    stream-place-requires
+    group-place-requires
+    mul-place-stream
+    array-copy-out-place-stream
+    mul-place-stream-2
+    array-copy-out-place-stream-2
+    place-stream-requires
+    mul-streams
+    array-set-from-streams
+    returns)
