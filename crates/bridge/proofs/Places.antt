@@ -74,11 +74,11 @@ module _ (i : ℕ) where
   stream-in e = stream-own (omega (arith, at-most StreamId i e))
 
 -- ---- a record that is stored where it stood changes nothing
-same-group : (b : Bridge) (i : ℕ) → withGroup b i (groupAt b i) ≡ b
+pub same-group : (b : Bridge) (i : ℕ) → withGroup b i (groupAt b i) ≡ b
 unfolding withGroup groupAt
 same-group b i = ap (λ gs. record { groups = gs; streams = b .streams }) (set-getD (b .groups) i noGroup)
 
-same-stream : (b : Bridge) (i : ℕ) → withStream b i (streamAt b i) ≡ b
+pub same-stream : (b : Bridge) (i : ℕ) → withStream b i (streamAt b i) ≡ b
 unfolding withStream streamAt
 same-stream b i = ap (λ ss. record { groups = b .groups; streams = ss }) (set-getD (b .streams) i noStream)
 

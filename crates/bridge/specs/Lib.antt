@@ -1,2 +1,4 @@
 pub mod Tables
 pub mod Calls
+pub mod Numbers
+pub mod History

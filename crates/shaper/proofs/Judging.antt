@@ -9,6 +9,7 @@ use lib.Dec.{ltb}
 use lib.Signed.{ltZ}
 use borrow.Author.Tests.{lt-ltb, le-ltb, ltb-true, ltb-false}
 use Rattle.quantity.specs.Ranges.{inRange}
+use Rattle.quantity.specs.Numbers.{numberOf}
 use Rattle.quantity.specs.declared.Item.the-variants.{Octets, Arrival}
 use Rattle.quantity.specs.declared.Ticks.{Ticks}
 use Rattle.quantity.specs.declared.Refusal.{Refusal}
@@ -91,35 +92,35 @@ pub record Passes (s : Stream) (g : Group) (n A : ℕ) : Type 0 where
   pub arrival : inRange Arrival A ≡ true
   pub order : g .last .0 ≤ A
 
--- every frame is either refused, and the records stay, or passes and is processed
+-- every frame is either refused, and the records stay, as unsound only where they are; or passes and is processed
 abbrev pub Verdict : Stream → Group → ℕ → ℕ → Type 0
-Verdict s g n A = ((why : Refusal) × (judged s g n A ≡ refused s g why)) ⊎ (Passes s g n A × (judged s g n A ≡ processFrame s g (charged n) A))
+Verdict s g n A = ((why : Refusal) × (judged s g n A ≡ refused s g why) × (numberOf why ≡ numberOf Unsound → (isSetUp (s .regulator) ≡ true) × (sound s g ≡ false))) ⊎ (Passes s g n A × (judged s g n A ≡ processFrame s g (charged n) A))
 
 pub verdict : (s : Stream) (g : Group) (n A : ℕ) → Verdict s g n A
 verdict s g n A = at-10 (isSetUp (s .regulator)) refl
   where
     at-14 : (t : Bool) → ltb A (g .last .0) ≡ t → isSetUp (s .regulator) ≡ true → sound s g ≡ true → inRange Octets n ≡ true → aboveBurst (s .regulator) (charged n) ≡ false → inRange Arrival A ≡ true → Verdict s g n A
-    at-14 true e u k o b a = inl (BeforeLast, before-last s g n A u k o b a (ltb-true A (g .last .0) e))
+    at-14 true e u k o b a = inl (BeforeLast, before-last s g n A u k o b a (ltb-true A (g .last .0) e), λ x. absurd (omega arith))
     at-14 false e u k o b a =
         let l : g .last .0 ≤ A = ltb-false A (g .last .0) e in
         inr (record { set-up = u; records = k; octets = o; burst = b; arrival = a; order = l }, processed s g n A u k o b a l)
 
     at-13 : (t : Bool) → inRange Arrival A ≡ t → isSetUp (s .regulator) ≡ true → sound s g ≡ true → inRange Octets n ≡ true → aboveBurst (s .regulator) (charged n) ≡ false → Verdict s g n A
-    at-13 false e u k o b = inl (TooLate, arrival-out s g n A u k o b e)
+    at-13 false e u k o b = inl (TooLate, arrival-out s g n A u k o b e, λ x. absurd (omega arith))
     at-13 true e u k o b = at-14 (ltb A (g .last .0)) refl u k o b e
 
     at-12 : (t : Bool) → aboveBurst (s .regulator) (charged n) ≡ t → isSetUp (s .regulator) ≡ true → sound s g ≡ true → inRange Octets n ≡ true → Verdict s g n A
-    at-12 true e u k o = inl (AboveBurst, above-burst s g n A u k o e)
+    at-12 true e u k o = inl (AboveBurst, above-burst s g n A u k o e, λ x. absurd (omega arith))
     at-12 false e u k o = at-13 (inRange Arrival A) refl u k o e
 
     at-11 : (t : Bool) → inRange Octets n ≡ t → isSetUp (s .regulator) ≡ true → sound s g ≡ true → Verdict s g n A
-    at-11 false e u k = inl (LengthRange, length-out s g n A u k e)
+    at-11 false e u k = inl (LengthRange, length-out s g n A u k e, λ x. absurd (omega arith))
     at-11 true e u k = at-12 (aboveBurst (s .regulator) (charged n)) refl u k e
 
     at-9 : (t : Bool) → sound s g ≡ t → isSetUp (s .regulator) ≡ true → Verdict s g n A
-    at-9 false e u = inl (Unsound, unsound s g n A u e)
+    at-9 false e u = inl (Unsound, unsound s g n A u e, λ x. (u, e))
     at-9 true e u = at-11 (inRange Octets n) refl u e
 
     at-10 : (t : Bool) → isSetUp (s .regulator) ≡ t → Verdict s g n A
-    at-10 false e = inl (NoStream, not-set-up s g n A e)
+    at-10 false e = inl (NoStream, not-set-up s g n A e, λ x. absurd (omega arith))
     at-10 true e = at-9 (sound s g) refl e

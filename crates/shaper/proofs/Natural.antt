@@ -14,7 +14,7 @@ use Rattle.quantity.specs.declared.Item.the-variants.{StreamRate, Arrival}
 use Rattle.quantity.specs.declared.Bits.{Bits}
 use Rattle.quantity.proofs.Ranges.{at-most}
 use Rattle.shaper.specs.ExactTime.{bitTime, tickTime, exactly, momentOf, roundedUp, orZero}
-use Rattle.shaper.specs.Frame.{E-first, S, F, E-after, earliest, afterRelease, eligibilityTime, discarded, released, settled, processFrame}
+use Rattle.shaper.specs.Frame.{burstOf, E-first, S, F, E-after, earliest, afterRelease, eligibilityTime, discarded, released, settled, processFrame}
 use Rattle.shaper.specs.Sound.{soundGroup, soundRegulator, sound}
 use Rattle.shaper.specs.Numbers.{aboveBurst, charged, judged}
 use Rattle.shaper.specs.SetUp.{freshStream}
@@ -29,14 +29,10 @@ use Rattle.shaper.proofs.ExactTime.{not-before-first, first-least, exac
 use Rattle.shaper.proofs.Soundness.{GroupOk, group-ok, group-sound, BucketOk, bucket-ok, bucket-sound, full-zero, full-below, SoundOk, sound-ok, sound-of}
 use Rattle.shaper.proofs.Judging.{Passes}
 
--- X and b of a regulator
+-- X of a regulator
 unfoldable pub X : ℕ → Regulator → ℕ
 X r Unset = 0
 X r (Bucket b e) = orZero (F (exactly r e) (b .0))
-
-unfoldable pub burstOf : Regulator → ℕ
-burstOf Unset = 0
-burstOf (Bucket b e) = b .0
 
 -- S and F from E, in ℕ
 start-parts : (E : ℤ) (L : ℕ) → orZero (S E L) + shortfall E ≡ orZero E + bitTime L + shortfall (S E L)

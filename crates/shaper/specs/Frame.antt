@@ -36,6 +36,11 @@ E-after r E b L T = cond (ltZ (tickTime r T) (F E b)) (S E L) (S E L +ℤ tickTi
 
 -- ---- what is particular to a regulator
 
+-- its burst
+unfoldable pub burstOf : Regulator → ℕ
+burstOf Unset = 0
+burstOf (Bucket b e) = b .0
+
 -- the smallest whole tick at which it lets the frame go: not below S
 unfoldable pub earliest : ℕ → Regulator → ℕ → ℕ
 earliest r Unset L = 0

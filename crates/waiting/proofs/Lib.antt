@@ -1,0 +1,12 @@
+pub mod Scans
+pub mod Firsts
+pub mod Gaps
+pub mod Calls
+pub mod Lines
+pub mod Standing
+pub mod SoundClasses
+pub mod Choosing
+pub mod SmallestTimes
+pub mod Cases
+pub mod Kept
+pub mod Promises

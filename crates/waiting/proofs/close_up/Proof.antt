@@ -1,0 +1,66 @@
+-- `waiting::close_up` meets its contract: what is left to move gives what the whole gives. Assumes nothing.
+use borrow.Author.Needs.{needs}
+use Rattle.waiting.proofs.close_up.Statement.{statement}
+use Rattle.waiting.proofs.close_up.Tie as tie
+use mathlib.Core.Path.{_≡_, refl, sym, _∙_}
+use Prim.Native.Nat.{_-_, _≤_, _<_}
+use native.Mathlib.Omega.{arith}
+use Rattle.waiting.specs.Places.{closed}
+use Rattle.waiting.proofs.Gaps.{gap-goes, gap-done}
+
+abbrev Inv-loop : tie.InvT-loop
+Inv-loop l₀ at end i₀ l i = (closed l i end ≡ closed l₀ at end) × ((end ≤ 256) × (i < end))
+
+abbrev μ-loop : tie.MeasureT-loop
+μ-loop l₀ at end i₀ l i = end - i
+
+loop-holds : tie.Need-loop-holds Inv-loop μ-loop
+loop-holds c = (refl, (omega arith, omega arith))
+
+add-loop : tie.Need-add-loop Inv-loop μ-loop
+add-loop c = search needs
+
+add-x : tie.Need-add-x Inv-loop μ-loop
+add-x c = search needs
+
+mul-x : tie.Need-mul-x Inv-loop μ-loop
+mul-x c = search needs
+
+element-copy-out-x : tie.Need-element-copy-out-x Inv-loop μ-loop
+element-copy-out-x c = search needs
+
+mul-l : tie.Need-mul-l Inv-loop μ-loop
+mul-l c = search needs
+
+element-write-l : tie.Need-element-write-l Inv-loop μ-loop
+element-write-l c = search needs
+
+add-i : tie.Need-add-i Inv-loop μ-loop
+add-i c = search needs
+
+loop-less : tie.Need-loop-less Inv-loop μ-loop
+loop-less c = search needs
+
+loop-again : tie.Need-loop-again Inv-loop μ-loop
+loop-again c = (gap-goes _ _ _ (c .before .loop-test .taken) ∙ c .before .before .loop .inv .0, (omega arith, omega arith))
+
+returns : tie.Need-returns Inv-loop μ-loop
+returns c = sym (sym (c .before .loop .inv .0) ∙ gap-done _ _ _ (c .loop-test .left))
+
+pub close-up-spec : {M : Type 1} → statement M
+close-up-spec =
+    tie.close
+    (tie.spec
+    Inv-loop
+    μ-loop
+    loop-holds
+    add-loop
+    add-x
+    mul-x
+    element-copy-out-x
+    mul-l
+    element-write-l
+    add-i
+    loop-less
+    loop-again
+    returns)
