@@ -6,3 +6,8 @@ pub mod Places
 pub mod Calls
 pub mod Steady
 pub mod Histories
+pub mod SoundBridges
+pub mod Demand1
+pub mod Demand2
+pub mod Demand3
+pub mod Discards

@@ -1,0 +1,9 @@
+pub mod BigEndian
+pub mod Layout
+pub mod Reader
+pub mod Writer
+pub mod Answers
+pub mod Meaning
+pub mod File
+pub mod RoundTrip
+pub mod Figures

@@ -1,0 +1,88 @@
+-- Demand 2 for the table file: records read are those written, and writing what was read gives the same bytes.
+-- Each statement has a name here, and its proof under the same name in the file RoundTrip of proofs/.
+use Prim.Native.Nat.{ℕ, _+_, _-_, _≤_, _<_}
+use mathlib.Core.Path.{_≡_}
+use mathlib.Core.List.{List, _++_}
+use lib.ListN.{length, take, drop}
+use Rattle.quantity.specs.declared.Refusal.{Refusal}
+use Rattle.tablefile.specs.declared.Record.{Record}
+use Rattle.tablefile.specs.declared.Reading.the-variants.{Found}
+use Rattle.tablefile.specs.declared.Written.the-variants as written
+use Rattle.tablefile.specs.BigEndian.{AreBytes}
+use Rattle.tablefile.specs.Layout.{Fits, bytesOf}
+use Rattle.tablefile.specs.Reader.{readAt}
+use Rattle.tablefile.specs.Writer.{writeTo}
+use Rattle.tablefile.specs.Answers.{nothingLeft}
+use Rattle.tablefile.specs.File.{AllFit, Contents, fileOf, onwards, contentsFrom, contents}
+
+-- a record's bytes are read back as that record, wherever they stand and whatever follows
+abbrev pub Reads-back : Type 0
+Reads-back =
+    (r : Record) → Fits r → (before after : List ℕ)
+    → readAt (before ++ (bytesOf r ++ after)) (length before) ≡ Found r (length before + length (bytesOf r))
+
+-- what is true of a record that was found between two places of a list of bytes
+pub record Whole (bytes : List ℕ) (place : ℕ) (r : Record) (next : ℕ) : Type 0 where
+  -- it fits its fields
+  pub fits : Fits r
+  -- it has its bytes between the two places, which are in the list
+  pub same : bytesOf r ≡ take (next - place) (drop place bytes)
+  pub later : place < next
+  pub inside : next ≤ length bytes
+
+-- a record that is read has the bytes that were read
+abbrev pub Writes-back : Type 0
+Writes-back =
+    (bytes : List ℕ) → AreBytes bytes → (place : ℕ) (r : Record) (next : ℕ)
+    → readAt bytes place ≡ Found r next → Whole bytes place r next
+
+-- a record that is found in a part of a file is found there in the whole file
+abbrev pub Found-in-the-whole : Type 0
+Found-in-the-whole =
+    (before bytes after : List ℕ) → AreBytes bytes → (place : ℕ) (r : Record) (next : ℕ) → readAt bytes place ≡ Found r next
+    → readAt (before ++ (bytes ++ after)) (length before + place) ≡ Found r (length before + next)
+
+-- through the calls: what the writer leaves in a lent part is read back from its front
+abbrev pub Written-is-read : Type 0
+Written-is-read =
+    (r : Record) → Fits r → (part : List ℕ) (n : ℕ)
+    → (writeTo r part) .answer ≡ written.Bytes n → readAt ((writeTo r part) .part) 0 ≡ Found r n
+
+-- through the calls: writing a record that was read puts the bytes that were read at the front of the lent part
+abbrev pub Read-is-written : Type 0
+Read-is-written =
+    (bytes : List ℕ) → AreBytes bytes → (place : ℕ) (r : Record) (next : ℕ) → readAt bytes place ≡ Found r next
+    → (part : List ℕ) → next - place ≤ length part
+    → writeTo r part
+    ≡ record { answer = written.Bytes (next - place); part = take (next - place) (drop place bytes) ++ drop (next - place) part }
+
+-- a refused writing leaves the lent part as it stood
+abbrev pub Refused-stays : Type 0
+Refused-stays =
+    (r : Record) (part : List ℕ) (why : Refusal) → (writeTo r part) .answer ≡ written.Refused why → (writeTo r part) .part ≡ part
+
+-- two records with the same bytes are the same record
+abbrev pub Same-bytes : Type 0
+Same-bytes = (r s : Record) → Fits r → Fits s → bytesOf r ≡ bytesOf s → r ≡ s
+
+-- a file is read one record at a time
+abbrev pub One-at-a-time : Type 0
+One-at-a-time = (bytes : List ℕ) (place : ℕ) → contentsFrom bytes place ≡ onwards (readAt bytes place) place (contentsFrom bytes)
+
+-- a file of any number of records holds exactly those, and ends with 5
+abbrev pub File-reads-back : Type 0
+File-reads-back =
+    (rs : List Record) → AllFit rs
+    → contents (fileOf rs) ≡ record { records = rs; ended = nothingLeft; place = length (fileOf rs) }
+
+-- what is true of the contents of a list of bytes
+pub record Copied (bytes : List ℕ) (c : Contents) : Type 0 where
+  -- its records fit their fields
+  pub fit : AllFit (c .records)
+  -- written again they are the bytes up to the place where the reading ended
+  pub front : fileOf (c .records) ≡ take (c .place) bytes
+  -- and the whole of them where it ended with 5
+  pub whole : c .ended ≡ nothingLeft → fileOf (c .records) ≡ bytes
+
+abbrev pub File-writes-back : Type 0
+File-writes-back = (bytes : List ℕ) → AreBytes bytes → Copied bytes (contents bytes)
