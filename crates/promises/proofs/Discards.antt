@@ -88,4 +88,5 @@ count-from g (x ∷ xs) b z n h =
 
 pub discard-count : DiscardCount
 unfolding DiscardCount
-discard-count xs g = count-from g xs freshBridge sized-fresh 0 (rw (fresh-group g) (record { count = refl; fits = omega arith; unused = λ y. refl }))
+discard-count xs g =
+    omega (arith, count-from g xs freshBridge sized-fresh 0 (rw (fresh-group g) (record { count = refl; fits = omega arith; unused = λ y. refl })))
