@@ -17,7 +17,7 @@ use Rattle.shaper.specs.declared.Group.{Group}
 use Rattle.shaper.specs.declared.Stream.{Stream}
 use Rattle.shaper.specs.declared.Judged.{Judged}
 use Rattle.shaper.specs.declared.Answer.{Answer}
-use Rattle.shaper.proofs.Judging.{Passes, Verdict, verdict}
+use Rattle.shaper.proofs.Judging.{Passes, Verdict, verdict, not-set-up}
 use Rattle.shaper.proofs.Fresh.{class-out, residence-out, group-done, group-out, group-unused, group-unsound, rate-out, burst-out, stream-done}
 use Rattle.bridge.specs.Tables.{noGroup, noStream, groupAt, streamAt, withGroup, withStream}
 use Rattle.bridge.specs.Calls.{groupTaken, groupPlaced, streamTaken, streamPlaced, judgedAt, groupStored, groupCalled, streamStored, streamCalled, frameStored, frameCalled}
@@ -47,6 +47,16 @@ module _ (b : Bridge) (i c M : ℕ) where
   unfolding groupCalled groupStored
   group-kept why e = ap (groupStored b i) e ∙ ap (λ (x : Bridge). record { answer = Refused why; bridge = x }) (same-group b i)
 
+  pub group-makes : inRange GroupId i ≡ true → groupAt b i .used ≡ false → inRange Class c ≡ true → inRange Residence M ≡ true → NewGroup b i c M
+  unfolding groupCalled groupStored groupTaken
+  group-makes h u k e = record {
+    id = h;
+    unused = u;
+    class = k;
+    residence = e;
+    gives = ap (groupStored b i) (group-taken i (groupAt b i) c M h u ∙ ap (groupTaken (groupAt b i)) (group-done c M k e));
+  }
+
   pub group-view : KeptGroup b i c M ⊎ NewGroup b i c M
   unfolding groupCalled groupStored groupTaken
   group-view = at-15 (inRange GroupId i) refl
@@ -59,7 +69,7 @@ module _ (b : Bridge) (i c M : ℕ) where
 
       at-20 : (t : Bool) → inRange Residence M ≡ t → inRange GroupId i ≡ true → g .used ≡ false → inRange Class c ≡ true → KeptGroup b i c M ⊎ NewGroup b i c M
       at-20 false e h u k = kept ResidenceRange (λ x. omega arith) (group-taken i g c M h u ∙ ap (groupTaken g) (residence-out c M k e))
-      at-20 true e h u k = inr (record { id = h; unused = u; class = k; residence = e; gives = ap (groupStored b i) (group-taken i g c M h u ∙ ap (groupTaken g) (group-done c M k e)) })
+      at-20 true e h u k = inr (group-makes h u k e)
 
       at-21 : (t : Bool) → inRange Class c ≡ t → inRange GroupId i ≡ true → g .used ≡ false → KeptGroup b i c M ⊎ NewGroup b i c M
       at-21 false e h u = kept ClassRange (λ x. omega arith) (group-taken i g c M h u ∙ ap (groupTaken g) (class-out c M e))
@@ -94,6 +104,19 @@ module _ (b : Bridge) (i k r u : ℕ) where
   unfolding streamCalled streamStored
   stream-kept why e = ap (streamStored b i) e ∙ ap (λ (x : Bridge). record { answer = Refused why; bridge = x }) (same-stream b i)
 
+  pub stream-makes : inRange StreamId i ≡ true → isSetUp (streamAt b i .regulator) ≡ false → inRange GroupId k ≡ true → groupAt b k .used ≡ true → soundGroup (groupAt b k) ≡ true → inRange StreamRate r ≡ true → inRange Burst u ≡ true → NewStream b i k r u
+  unfolding streamCalled streamStored streamTaken
+  stream-makes h n a d o f e = record {
+    id = h;
+    unset = n;
+    home = a;
+    used = d;
+    group = o;
+    rate = f;
+    burst = e;
+    gives = ap (streamStored b i) (stream-taken i (streamAt b i) k (groupAt b k) r u h n ∙ ap (streamTaken (streamAt b i)) (stream-done k (groupAt b k) r u a d o f e));
+  }
+
   pub stream-view : KeptStream b i k r u ⊎ NewStream b i k r u
   unfolding streamCalled streamStored streamTaken
   stream-view = at-15 (inRange StreamId i) refl
@@ -109,7 +132,7 @@ module _ (b : Bridge) (i k r u : ℕ) where
 
       at-19 : (t : Bool) → inRange Burst u ≡ t → inRange StreamId i ≡ true → isSetUp (s .regulator) ≡ false → inRange GroupId k ≡ true → g .used ≡ true → soundGroup g ≡ true → inRange StreamRate r ≡ true → KeptStream b i k r u ⊎ NewStream b i k r u
       at-19 false e h n a d o f = kept BurstRange (λ x. absurd (omega arith)) (stream-taken i s k g r u h n ∙ ap (streamTaken s) (burst-out k g r u a d o f e))
-      at-19 true e h n a d o f = inr (record { id = h; unset = n; home = a; used = d; group = o; rate = f; burst = e; gives = ap (streamStored b i) (stream-taken i s k g r u h n ∙ ap (streamTaken s) (stream-done k g r u a d o f e)) })
+      at-19 true e h n a d o f = inr (stream-makes h n a d o f e)
 
       at-18 : (t : Bool) → inRange StreamRate r ≡ t → inRange StreamId i ≡ true → isSetUp (s .regulator) ≡ false → inRange GroupId k ≡ true → g .used ≡ true → soundGroup g ≡ true → KeptStream b i k r u ⊎ NewStream b i k r u
       at-18 false e h n a d o = kept RateRange (λ x. absurd (omega arith)) (stream-taken i s k g r u h n ∙ ap (streamTaken s) (rate-out k g r u a d o e))
@@ -159,6 +182,15 @@ module _ (b : Bridge) (i n A : ℕ) where
       ap (frameStored b i (s .group)) e
       ∙ ap (λ (x : Bridge). record { answer = Answer.Refused why; bridge = withGroup x (s .group) g }) (same-stream b i)
       ∙ ap (λ (x : Bridge). record { answer = Answer.Refused why; bridge = x }) (same-group b (s .group))
+
+  -- a stream that is not set up has its frames refused, whatever the tables hold
+  pub frame-unset : isSetUp (streamAt b i .regulator) ≡ false → frameCalled b i n A ≡ record { answer = Answer.Refused NoStream; bridge = b }
+  unfolding s g
+  frame-unset u = frame-kept NoStream (by (inRange StreamId i) refl)
+    where
+      by : (t : Bool) → inRange StreamId i ≡ t → judgedAt i s g n A ≡ refused s g NoStream
+      by true e = frame-id-in i s g n A e ∙ not-set-up s g n A u
+      by false e = frame-id-out i s g n A e
 
   pub frame-view : KeptFrame b i n A ⊎ JudgedFrame b i n A
   unfolding frameCalled s g

@@ -111,7 +111,7 @@ unfolding aboveBurst burstOf
 small Unset L h a = absurd-bool (sym h)
 small (Bucket u e) L h a = ltb-false (u .0) L a
 
-set-up-kept : (r L T : ℕ) (k : Regulator) → isSetUp k ≡ true → isSetUp (afterRelease r k L T) ≡ true
+pub set-up-kept : (r L T : ℕ) (k : Regulator) → isSetUp k ≡ true → isSetUp (afterRelease r k L T) ≡ true
 unfolding afterRelease
 set-up-kept r L T Unset h = h
 set-up-kept r L T (Bucket u e) h = refl
