@@ -12,3 +12,4 @@ pub mod Demand2
 pub mod Demand3
 pub mod Discards
 pub mod Independence
+pub mod Examples
