@@ -7,7 +7,8 @@ use Rattle.bridge.specs.Tables.{freshBridge}
 use Rattle.bridge.specs.History.{Call, group, stream, frame, afterCall}
 use Rattle.bridge.specs.declared.Bridge.{Bridge}
 use Rattle.bridge.proofs.Views.{KeptFrame, JudgedFrame, frame-view}
-use Rattle.promises.specs.Demand2.{ByProcessFrame, EachByProcessFrame, ProcessFrameThroughout}
+use Rattle.tablefile.proofs.RoundTrip.{reads-back, writes-back, file-reads-back, file-writes-back}
+use Rattle.promises.specs.Demand2.{ByProcessFrame, EachByProcessFrame, ProcessFrameThroughout, RoundTrips}
 
 by-process-frame : (b : Bridge) (i n A : ℕ) → ByProcessFrame b i n A
 unfolding ByProcessFrame
@@ -27,3 +28,11 @@ each-from b (frame i n A ∷ xs) = (by-process-frame b i n A, each-from (afterCa
 pub process-frame-throughout : ProcessFrameThroughout
 unfolding ProcessFrameThroughout
 process-frame-throughout xs = each-from freshBridge xs
+
+pub round-trips : RoundTrips
+round-trips = record {
+  record-read-is-written = reads-back;
+  record-written-is-read = writes-back;
+  file-read-is-written = file-reads-back;
+  file-written-is-read = file-writes-back;
+}

@@ -12,6 +12,7 @@ use Rattle.bridge.specs.Tables.{freshBridge, groupAt, streamAt}
 use Rattle.bridge.specs.Calls.{frameStored, frameCalled}
 use Rattle.bridge.specs.History.{Call, group, stream, frame, afterCall}
 use Rattle.bridge.specs.declared.Bridge.{Bridge}
+use Rattle.tablefile.specs.RoundTrip.{ReadsBack, WritesBack, FileReadsBack, FileWritesBack}
 
 -- a frame is refused and all records stay, or its answer and its two records are ProcessFrame's
 unfoldable pub ByProcessFrame : Bridge → ℕ → ℕ → ℕ → Type 0
@@ -29,3 +30,10 @@ EachByProcessFrame b (frame i n A ∷ xs) = ByProcessFrame b i n A × EachByProc
 -- of every history
 unfoldable pub ProcessFrameThroughout : Type 0
 ProcessFrameThroughout = (xs : List Call) → EachByProcessFrame freshBridge xs
+
+-- records read from the table file are those written to it, and writing what was read gives the same bytes: for one record wherever it stands, and for a whole file
+pub record RoundTrips : Type 0 where
+  pub record-read-is-written : ReadsBack
+  pub record-written-is-read : WritesBack
+  pub file-read-is-written : FileReadsBack
+  pub file-written-is-read : FileWritesBack

@@ -16,20 +16,20 @@ use Rattle.quantity.specs.declared.Refusal.the-variants.{NoRoom}
 use Rattle.tablefile.specs.Layout.{Fits, bytesOf}
 use Rattle.tablefile.specs.Reader.{readAt}
 use Rattle.tablefile.specs.Writer.{writeOf, writeTo}
-use Rattle.tablefile.specs.RoundTrip.{Reads-back, Writes-back, Found-in-the-whole, Written-is-read, Read-is-written, Refused-stays, Same-bytes, One-at-a-time, File-reads-back, File-writes-back}
+use Rattle.tablefile.specs.RoundTrip.{ReadsBack, WritesBack, FoundInTheWhole, WrittenIsRead, ReadIsWritten, RefusedStays, SameBytes, OneAtATime, FileReadsBack, FileWritesBack}
 use Rattle.tablefile.proofs.OneRecord.{read-back, written-back, found-length, found-in-longer}
 use Rattle.tablefile.proofs.WholeFile.{unfolds, file-back, file-kept}
 
-pub reads-back : Reads-back
+pub reads-back : ReadsBack
 reads-back = read-back
 
-pub writes-back : Writes-back
+pub writes-back : WritesBack
 writes-back = written-back
 
-pub found-in-the-whole : Found-in-the-whole
+pub found-in-the-whole : FoundInTheWhole
 found-in-the-whole = found-in-longer
 
-pub same-bytes : Same-bytes
+pub same-bytes : SameBytes
 same-bytes r s hr hs e =
     let first = read-back r hr [] [] in
     let second = read-back s hs [] [] in
@@ -49,7 +49,7 @@ by-room r h part n false t e =
     let count : length (bytesOf r) ≡ n = cc in
     rw t (read-back r h [] (drop (length (bytesOf r)) part) ∙ ap (Found r) (zero-add (length (bytesOf r)) ∙ count))
 
-pub written-is-read : Written-is-read
+pub written-is-read : WrittenIsRead
 written-is-read r h part n e = by-room r h part n (ltb (length part) (length (bytesOf r))) refl e
 
 stays : (bytes part : List ℕ) (why : Refusal) (t : Bool) → ltb (length part) (length bytes) ≡ t
@@ -61,22 +61,22 @@ stays bytes part why false t e =
     let z : _≡_ {A = ℕ} 0 1 = cc in
     absurd (omega arith)
 
-pub refused-stays : Refused-stays
+pub refused-stays : RefusedStays
 unfolding writeTo
 refused-stays r part why e = stays (bytesOf r) part why (ltb (length part) (length (bytesOf r))) refl e
 
-pub read-is-written : Read-is-written
+pub read-is-written : ReadIsWritten
 unfolding writeTo writeOf
 read-is-written bytes h p r next e part room =
     let w = written-back bytes h p r next e in
     let count = found-length w in
     rw (le-ltb (length part) (length (bytesOf r)) (omega arith), count, w .same)
 
-pub one-at-a-time : One-at-a-time
+pub one-at-a-time : OneAtATime
 one-at-a-time = unfolds
 
-pub file-reads-back : File-reads-back
+pub file-reads-back : FileReadsBack
 file-reads-back rs h = file-back rs h
 
-pub file-writes-back : File-writes-back
+pub file-writes-back : FileWritesBack
 file-writes-back = file-kept

@@ -16,8 +16,8 @@ use Rattle.tablefile.specs.Answers.{nothingLeft}
 use Rattle.tablefile.specs.File.{AllFit, Contents, fileOf, onwards, contentsFrom, contents}
 
 -- a record's bytes are read back as that record, wherever they stand and whatever follows
-abbrev pub Reads-back : Type 0
-Reads-back =
+abbrev pub ReadsBack : Type 0
+ReadsBack =
     (r : Record) → Fits r → (before after : List ℕ)
     → readAt (before ++ (bytesOf r ++ after)) (length before) ≡ Found r (length before + length (bytesOf r))
 
@@ -31,47 +31,47 @@ pub record Whole (bytes : List ℕ) (place : ℕ) (r : Record) (next : ℕ) : Ty
   pub inside : next ≤ length bytes
 
 -- a record that is read has the bytes that were read
-abbrev pub Writes-back : Type 0
-Writes-back =
+abbrev pub WritesBack : Type 0
+WritesBack =
     (bytes : List ℕ) → AreBytes bytes → (place : ℕ) (r : Record) (next : ℕ)
     → readAt bytes place ≡ Found r next → Whole bytes place r next
 
 -- a record that is found in a part of a file is found there in the whole file
-abbrev pub Found-in-the-whole : Type 0
-Found-in-the-whole =
+abbrev pub FoundInTheWhole : Type 0
+FoundInTheWhole =
     (before bytes after : List ℕ) → AreBytes bytes → (place : ℕ) (r : Record) (next : ℕ) → readAt bytes place ≡ Found r next
     → readAt (before ++ (bytes ++ after)) (length before + place) ≡ Found r (length before + next)
 
 -- through the calls: what the writer leaves in a lent part is read back from its front
-abbrev pub Written-is-read : Type 0
-Written-is-read =
+abbrev pub WrittenIsRead : Type 0
+WrittenIsRead =
     (r : Record) → Fits r → (part : List ℕ) (n : ℕ)
     → (writeTo r part) .answer ≡ written.Bytes n → readAt ((writeTo r part) .part) 0 ≡ Found r n
 
 -- through the calls: writing a record that was read puts the bytes that were read at the front of the lent part
-abbrev pub Read-is-written : Type 0
-Read-is-written =
+abbrev pub ReadIsWritten : Type 0
+ReadIsWritten =
     (bytes : List ℕ) → AreBytes bytes → (place : ℕ) (r : Record) (next : ℕ) → readAt bytes place ≡ Found r next
     → (part : List ℕ) → next - place ≤ length part
     → writeTo r part
     ≡ record { answer = written.Bytes (next - place); part = take (next - place) (drop place bytes) ++ drop (next - place) part }
 
 -- a refused writing leaves the lent part as it stood
-abbrev pub Refused-stays : Type 0
-Refused-stays =
+abbrev pub RefusedStays : Type 0
+RefusedStays =
     (r : Record) (part : List ℕ) (why : Refusal) → (writeTo r part) .answer ≡ written.Refused why → (writeTo r part) .part ≡ part
 
 -- two records with the same bytes are the same record
-abbrev pub Same-bytes : Type 0
-Same-bytes = (r s : Record) → Fits r → Fits s → bytesOf r ≡ bytesOf s → r ≡ s
+abbrev pub SameBytes : Type 0
+SameBytes = (r s : Record) → Fits r → Fits s → bytesOf r ≡ bytesOf s → r ≡ s
 
 -- a file is read one record at a time
-abbrev pub One-at-a-time : Type 0
-One-at-a-time = (bytes : List ℕ) (place : ℕ) → contentsFrom bytes place ≡ onwards (readAt bytes place) place (contentsFrom bytes)
+abbrev pub OneAtATime : Type 0
+OneAtATime = (bytes : List ℕ) (place : ℕ) → contentsFrom bytes place ≡ onwards (readAt bytes place) place (contentsFrom bytes)
 
 -- a file of any number of records holds exactly those, and ends with 5
-abbrev pub File-reads-back : Type 0
-File-reads-back =
+abbrev pub FileReadsBack : Type 0
+FileReadsBack =
     (rs : List Record) → AllFit rs
     → contents (fileOf rs) ≡ record { records = rs; ended = nothingLeft; place = length (fileOf rs) }
 
@@ -84,5 +84,5 @@ pub record Copied (bytes : List ℕ) (c : Contents) : Type 0 where
   -- and the whole of them where it ended with 5
   pub whole : c .ended ≡ nothingLeft → fileOf (c .records) ≡ bytes
 
-abbrev pub File-writes-back : Type 0
-File-writes-back = (bytes : List ℕ) → AreBytes bytes → Copied bytes (contents bytes)
+abbrev pub FileWritesBack : Type 0
+FileWritesBack = (bytes : List ℕ) → AreBytes bytes → Copied bytes (contents bytes)
