@@ -1,0 +1,82 @@
+-- A frame in lent records, over plain values: each law is one return of the code. Assumes nothing.
+use mathlib.Core.Path.{_≡_, refl}
+use mathlib.Core.Bool.{Bool, true, false, not, cond, _&&_}
+use mathlib.Core.List.{List}
+use Prim.Native.Nat.{ℕ, _<_}
+use native.Mathlib.Omega.{arith}
+use lib.Dec.{eqb}
+use lib.ListN.{length, getD}
+use borrow.Author.Tests.{eqb-true}
+use Rattle.quantity.specs.Ranges.{inRange}
+use Rattle.quantity.specs.declared.Item.the-variants.{StreamId}
+use Rattle.quantity.specs.declared.Refusal.the-variants.{Unsound, NoStream}
+use Rattle.quantity.proofs.Booleans.{both}
+use Rattle.quantity.proofs.Ranges.{at-most}
+use Rattle.shaper.specs.Numbers.{isSetUp, judged, refused}
+use Rattle.shaper.specs.declared.Group.{Group}
+use Rattle.shaper.specs.declared.Stream.{Stream}
+use Rattle.bridge.specs.Tables.{noStream}
+use Rattle.receive.specs.InPlace.{runPlaces, judgedIn, stays, stored, received}
+use Rattle.receive.specs.Steps.{ready, unreadiness}
+
+-- ---- whether the run has its length and the stream a place in it
+module _ (places k : ℕ) where
+  pub of-another-length : eqb places runPlaces ≡ false → ready places k ≡ false
+  unfolding ready
+  of-another-length e = simp e
+
+  pub of-its-length : eqb places runPlaces ≡ true → inRange StreamId k ≡ ready places k
+  unfolding ready
+  of-its-length e = simp e
+
+  -- a stream that has a place is within the run
+  pub has-place : ready places k ≡ true → k < places
+  unfolding ready
+  has-place e =
+      let h = both (eqb places runPlaces) (inRange StreamId k) e in
+      omega (arith, eqb-true places runPlaces (h .0), at-most StreamId k (h .1))
+
+  pub has-low-place : ready places k ≡ true → k < runPlaces
+  unfolding ready
+  has-low-place e = omega (arith, at-most StreamId k (both (eqb places runPlaces) (inRange StreamId k) e .1))
+
+module _ (places : ℕ) where
+  pub length-first : eqb places runPlaces ≡ false → unreadiness places ≡ Unsound
+  unfolding unreadiness
+  length-first e = simp e
+
+  pub then-stream : eqb places runPlaces ≡ true → unreadiness places ≡ NoStream
+  unfolding unreadiness
+  then-stream e = simp e
+
+-- ---- a frame by the lent group's record
+module _ (i : ℕ) (s : Stream) (g : Group) (n A : ℕ) where
+  pub unset : isSetUp (s .regulator) ≡ false → judgedIn i s g n A ≡ refused s g NoStream
+  unfolding judgedIn
+  unset e = simp e
+
+  module _ (u : isSetUp (s .regulator) ≡ true) where
+    pub elsewhere : eqb (s .group) i ≡ false → judgedIn i s g n A ≡ refused s g Unsound
+    unfolding judgedIn
+    elsewhere e = simp (u, e)
+
+    pub at-home : eqb (s .group) i ≡ true → judgedIn i s g n A ≡ judged s g n A
+    unfolding judgedIn
+    at-home e = simp (u, e)
+
+-- ---- a frame in the run
+module _ (i : ℕ) (g : Group) (ss : List Stream) (k n A : ℕ) where
+  pub is-stored : ready (length ss) k ≡ true → received i g ss k n A ≡ stored ss k (judgedIn i (getD ss k noStream) g n A)
+  unfolding received ready
+  is-stored e =
+      let h = both (eqb (length ss) runPlaces) (inRange StreamId k) e in
+      simp (h .0, h .1)
+
+  pub is-unready : ready (length ss) k ≡ false → received i g ss k n A ≡ stays g ss (unreadiness (length ss))
+  unfolding received ready unreadiness
+  is-unready = go (eqb (length ss) runPlaces) (inRange StreamId k)
+    where
+      go : (x y : Bool) → x && y ≡ false → cond (not x) (stays g ss Unsound) (cond (not y) (stays g ss NoStream) (stored ss k (judgedIn i (getD ss k noStream) g n A))) ≡ stays g ss (cond x NoStream Unsound)
+      go false y e = refl
+      go true false e = refl
+      go true true e = let z : _≡_ {A = ℕ} 0 1 = cc in absurd (omega arith)

@@ -1,0 +1,6 @@
+pub mod InPlaceLaws
+pub mod WideNumbers
+pub mod LentRecords
+pub mod Walking
+pub mod Locals
+pub mod Promises

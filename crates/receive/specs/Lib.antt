@@ -1,0 +1,4 @@
+pub mod InPlace
+pub mod Firmware
+pub mod Steps
+pub mod Promises
