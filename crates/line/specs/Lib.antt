@@ -1,0 +1,4 @@
+pub mod Run
+pub mod Events
+pub mod Promises
+pub mod Firsts

@@ -1,0 +1,253 @@
+-- Document 01, 'A run against a line': the events of a run, where it stops, and what it gives.
+-- i is a run's input, s its state, m a moment, n a frame's octets, T its eligibility time, k its place in the list.
+use Prim.Native.Nat.{ℕ, zero, suc, _+_, _-_, _/_, max}
+use mathlib.Core.Bool.{Bool, cond, not, _&&_, _||_}
+use mathlib.Core.List.{List, [], _∷_}
+use lib.Dec.{ltb, leb, eqb}
+use lib.ListN.{length, getD, set}
+use Rattle.quantity.specs.Ranges.{inRange}
+use Rattle.quantity.specs.Numbers.{numberOf}
+use Rattle.quantity.specs.declared.Item.the-variants.{LineRate, LineFree, PickMoment, ListPlaces}
+use Rattle.quantity.specs.declared.Refusal.the-variants.{Unsound, ListsUnfit, LineUnfit}
+use Rattle.shaper.specs.ExactTime.{bitTime}
+use Rattle.shaper.specs.Frame.{ticks}
+use Rattle.shaper.specs.Numbers.{charged, answerNumber}
+use Rattle.shaper.specs.declared.Group.{Group}
+use Rattle.shaper.specs.declared.Answer.{Answer}
+use Rattle.shaper.specs.declared.Answer.the-variants.{Released, Discarded, Refused as FrameRefused}
+use Rattle.waiting.specs.Soundness.{allSound}
+use Rattle.waiting.specs.Places.{smallestOf, enterGives, pickGives}
+use Rattle.waiting.specs.Answers.{enteredNumber}
+use Rattle.waiting.specs.declared.Waiting.{Waiting}
+use Rattle.waiting.specs.declared.AfterEnter.{AfterEnter}
+use Rattle.waiting.specs.declared.Picked.{Picked}
+use Rattle.waiting.specs.declared.Picked.the-variants.{Leaves, Nothing, Refused as NotPicked}
+use Rattle.waiting.specs.declared.Smallest.{Smallest}
+use Rattle.waiting.specs.declared.Smallest.the-variants.{Time, NothingWaits}
+use Rattle.bridge.specs.Tables.{groupAt, streamAt}
+use Rattle.bridge.specs.Calls.{frameCalled}
+use Rattle.bridge.specs.declared.Bridge.{Bridge}
+use Rattle.bridge.specs.declared.Framed.{Framed}
+use Rattle.line.specs.declared.Handed.{Handed}
+use Rattle.line.specs.declared.Ran.{Ran}
+use Rattle.line.specs.declared.Stop.{Stop}
+use Rattle.line.specs.declared.Stop.the-variants.{Done, BudgetSpent, TooLate, PicksFull, Refused}
+use Rattle.line.specs.declared.Step.{Step}
+use Rattle.line.specs.declared.Step.the-variants.{Ends, Arrival, Pick}
+
+-- ---- what a run is given, and how it stands
+
+-- three lists of arrivals (time, stream, octets) and the line rate
+pub record Input : Type 0 where
+  pub arrivals : List ℕ
+  pub ids : List ℕ
+  pub octets : List ℕ
+  pub rate : ℕ
+
+-- the tables and queues, the next arrival's place, the moment the line is free, the counts of events and of picks, and the three lent lists
+pub record State : Type 0 where
+  pub bridge : Bridge
+  pub waiting : Waiting
+  pub next : ℕ
+  pub free : ℕ
+  pub events : ℕ
+  pub picks : ℕ
+  pub answers : List ℕ
+  pub picked : List ℕ
+  pub moments : List ℕ
+
+-- ---- which event is next
+
+-- an arrival, a pick at a moment; or none is left
+pub data Event : Type 0 where
+  arrival : Event
+  pick : ℕ → Event
+  none : Event
+
+-- an arrival remains, at place k, and its time is not after m
+unfoldable pub arrivesBy : List ℕ → ℕ → ℕ → Bool
+arrivesBy l k m = ltb k (length l) && leb (getD l k 0) m
+
+-- the next arrival, if one remains and its time is not after the candidate moment m; otherwise the pick at m
+unfoldable pub atCandidate : List ℕ → ℕ → ℕ → Event
+atCandidate l k m = cond (arrivesBy l k m) arrival (pick m)
+
+-- nothing waits: the next arrival, if one remains; otherwise the candidate moment is the later of line-free and the smallest waiting time
+unfoldable pub nextEvent : List ℕ → ℕ → ℕ → Smallest → Event
+nextEvent l k free NothingWaits = cond (ltb k (length l)) arrival none
+nextEvent l k free (Time t) = atCandidate l k (max free (t .0))
+
+-- ---- where a run stops, with so many events left of its budget: done, budget spent, pick too late, either pick list full
+
+unfoldable pub arrivalStep : ℕ → Step
+arrivalStep left = cond (ltb left 1) (Ends BudgetSpent) Arrival
+
+unfoldable pub pickStep : ℕ → ℕ → ℕ → ℕ → ℕ → Step
+pickStep left picks handles moments m =
+    cond (ltb left 1) (Ends BudgetSpent)
+    (cond (not (inRange PickMoment m)) (Ends TooLate)
+    (cond (leb handles picks || leb moments picks) (Ends PicksFull)
+    (Pick (ticks m))))
+
+unfoldable pub stepFor : ℕ → ℕ → ℕ → ℕ → Event → Step
+stepFor left picks handles moments none = Ends Done
+stepFor left picks handles moments arrival = arrivalStep left
+stepFor left picks handles moments (pick m) = pickStep left picks handles moments m
+
+-- what a run in the state s does next: one of the two events, or it ends
+unfoldable pub step : Input → ℕ → State → Step
+step i left s =
+    stepFor left (s .picks) (length (s .picked)) (length (s .moments))
+    (nextEvent (i .arrivals) (s .next) (s .free) (smallestOf (s .waiting .times) (s .waiting .fills)))
+
+-- ---- an arrival
+
+-- what is handed to the queue for a frame at place k that is released at T: T, the class of its stream's group g, and its charged bits
+unfoldable pub handed : Group → ℕ → ℕ → ℕ → Handed
+handed g k n T = record { class = g .class; entry = record { handle = k; time = ticks T; bits = record { 0 = charged n } } }
+
+-- a frame's own number, and the queues after it
+pub record Settled : Type 0 where
+  pub number : ℕ
+  pub waiting : Waiting
+
+unfoldable pub entered : AfterEnter → Settled
+entered e = record { number = enteredNumber (e .answer); waiting = e .waiting }
+
+-- if released it enters its class, and a full class gives 22; else the queues stay
+unfoldable pub settled : Waiting → Group → ℕ → ℕ → Answer → Settled
+settled w g k n (Released T) = entered (enterGives w (handed g k n (T .0) .class) (handed g k n (T .0) .entry))
+settled w g k n (Discarded T) = record { number = answerNumber (Discarded T); waiting = w }
+settled w g k n (FrameRefused why) = record { number = answerNumber (FrameRefused why); waiting = w }
+
+-- the frame at a place of the lists, judged by the tables b
+unfoldable pub frameAt : Input → Bridge → ℕ → Framed
+frameAt i b k = frameCalled b (getD (i .ids) k 0) (getD (i .octets) k 0) (getD (i .arrivals) k 0)
+
+-- the group of that frame's stream
+unfoldable pub groupOf : Input → Bridge → ℕ → Group
+groupOf i b k = groupAt b (streamAt b (getD (i .ids) k 0) .group)
+
+-- what becomes of the next frame
+unfoldable pub settledAt : Input → State → Settled
+settledAt i s = settled (s .waiting) (groupOf i (s .bridge) (s .next)) (s .next) (getD (i .octets) (s .next) 0) (frameAt i (s .bridge) (s .next) .answer)
+
+-- its answer goes to its place
+unfoldable pub arrived : Input → State → State
+arrived i s = record {
+  bridge = frameAt i (s .bridge) (s .next) .bridge;
+  waiting = settledAt i s .waiting;
+  next = s .next + 1;
+  free = s .free;
+  events = s .events + 1;
+  picks = s .picks;
+  answers = set (s .answers) (s .next) (settledAt i s .number);
+  picked = s .picked;
+  moments = s .moments;
+}
+
+-- ---- a pick
+
+-- charged bits·10⁹/line rate, taken up to a whole tick
+unfoldable pub sendingTicks : ℕ → ℕ → ℕ
+sendingTicks bits rate = (bitTime bits + (rate - 1)) / rate
+
+-- the entry leaves: its handle and the moment m are written at the next free output place, and the line is free when it is sent. (Where no entry is due, a run picks none.)
+unfoldable pub sent : Input → State → ℕ → Waiting → Picked → State
+sent i s m w (Leaves c e) = record {
+  bridge = s .bridge;
+  waiting = w;
+  next = s .next;
+  free = m + sendingTicks (e .bits .0) (i .rate);
+  events = s .events + 1;
+  picks = s .picks + 1;
+  answers = s .answers;
+  picked = set (s .picked) (s .picks) (e .handle);
+  moments = set (s .moments) (s .picks) m;
+}
+sent i s m w Nothing = s
+sent i s m w (NotPicked why) = s
+
+unfoldable pub pickedAt : Input → State → ℕ → State
+pickedAt i s m = sent i s m (pickGives (s .waiting) m .waiting) (pickGives (s .waiting) m .answer)
+
+-- ---- the run
+
+-- a run's result, and the lent lists after it
+pub record Outcome : Type 0 where
+  pub ran : Ran
+  pub answers : List ℕ
+  pub picked : List ℕ
+  pub moments : List ℕ
+
+-- stopped in the state s
+unfoldable pub stopped : Stop → State → Outcome
+stopped why s = record {
+  ran = record { stop = why; next = s .next; free = ticks (s .free); events = s .events; picks = s .picks; bridge = s .bridge; waiting = s .waiting };
+  answers = s .answers;
+  picked = s .picked;
+  moments = s .moments;
+}
+
+-- a step taken in the state s, with what follows it
+unfoldable pub onward : Input → State → Step → (State → Outcome) → Outcome
+onward i s (Ends why) more = stopped why s
+onward i s Arrival more = more (arrived i s)
+onward i s (Pick m) more = more (pickedAt i s (m .0))
+
+-- event by event, with so many left of the budget
+unfoldable pub runFor : Input → ℕ → State → Outcome
+runFor i zero s = onward i s (step i zero s) (stopped BudgetSpent)
+runFor i (suc left) s = onward i s (step i (suc left) s) (runFor i left)
+
+-- ---- the call
+
+-- how a run begins: picks are written from place 0 at each call
+unfoldable pub begun : Bridge → Waiting → ℕ → ℕ → List ℕ → List ℕ → List ℕ → State
+begun b w start free answers picked moments = record {
+  bridge = b;
+  waiting = w;
+  next = start;
+  free = free;
+  events = 0;
+  picks = 0;
+  answers = answers;
+  picked = picked;
+  moments = moments;
+}
+
+-- input lists of equal length, of at most 65,536 places, the start not beyond the end, and the answer list not shorter
+unfoldable pub listsFit : ℕ → ℕ → ℕ → ℕ → ℕ → Bool
+listsFit arrivals ids octets start answers =
+    eqb ids arrivals && (eqb octets arrivals && (inRange ListPlaces arrivals && (leb start arrivals && leb arrivals answers)))
+
+unfoldable pub lineFits : ℕ → ℕ → Bool
+lineFits rate free = inRange LineRate rate && inRange LineFree free
+
+-- refused by 28, 29 and 9, in this order, and nothing changes; else event by event
+unfoldable pub runGives : Input → ℕ → State → Outcome
+runGives i budget s =
+    cond (not (listsFit (length (i .arrivals)) (length (i .ids)) (length (i .octets)) (s .next) (length (s .answers)))) (stopped (Refused ListsUnfit) s)
+    (cond (not (lineFits (i .rate) (s .free))) (stopped (Refused LineUnfit) s)
+    (cond (not (allSound (s .waiting .times) (s .waiting .bits) (s .waiting .fills))) (stopped (Refused Unsound) s)
+    (runFor i budget s)))
+
+-- ---- the number of a stop, and the values that come with it
+
+unfoldable pub stopNumber : Stop → ℕ
+stopNumber Done = 0
+stopNumber BudgetSpent = 3
+stopNumber TooLate = 27
+stopNumber PicksFull = 4
+stopNumber (Refused why) = numberOf why
+
+-- none where the run is refused; else the next arrival's place, line-free, and the counts of events and of picks
+unfoldable pub valuesWith : Stop → List ℕ → List ℕ
+valuesWith Done values = values
+valuesWith BudgetSpent values = values
+valuesWith TooLate values = values
+valuesWith PicksFull values = values
+valuesWith (Refused why) values = []
+
+unfoldable pub ranValues : Ran → List ℕ
+ranValues r = valuesWith (r .stop) (r .next ∷ r .free .0 ∷ r .events ∷ r .picks ∷ [])
