@@ -1,20 +1,25 @@
 -- A frame in lent records, over plain values: each law is one return of the code. Assumes nothing.
-use mathlib.Core.Path.{_≡_, refl}
+use mathlib.Core.Path.{_≡_, refl, _∙_}
 use mathlib.Core.Bool.{Bool, true, false, not, cond, _&&_}
 use mathlib.Core.List.{List}
-use Prim.Native.Nat.{ℕ, _<_}
+use mathlib.Core.Logic.{_⊎_, inl, inr}
+use Prim.Native.Nat.{ℕ, _<_, _+_}
 use native.Mathlib.Omega.{arith}
-use lib.Dec.{eqb}
+use lib.Dec.{leb, eqb}
 use lib.ListN.{length, getD}
-use borrow.Author.Tests.{eqb-true}
+use borrow.Author.Tests.{leb-true, leb-false, eqb-true}
 use Rattle.quantity.specs.Ranges.{inRange}
 use Rattle.quantity.specs.declared.Item.the-variants.{StreamId}
+use Rattle.quantity.specs.declared.Refusal.{Refusal}
 use Rattle.quantity.specs.declared.Refusal.the-variants.{Unsound, NoStream}
 use Rattle.quantity.proofs.Booleans.{both}
 use Rattle.quantity.proofs.Ranges.{at-most}
-use Rattle.shaper.specs.Numbers.{isSetUp, judged, refused}
+use Rattle.shaper.specs.Frame.{settled, processFrame, eligibilityTime, discarded, released}
+use Rattle.shaper.specs.Numbers.{isSetUp, judged, refused, charged}
 use Rattle.shaper.specs.declared.Group.{Group}
 use Rattle.shaper.specs.declared.Stream.{Stream}
+use Rattle.shaper.specs.declared.Judged.{Judged}
+use Rattle.shaper.proofs.Judging.{Verdict, verdict, too-late, in-time}
 use Rattle.bridge.specs.Tables.{noStream}
 use Rattle.receive.specs.InPlace.{runPlaces, judgedIn, stays, stored, received}
 use Rattle.receive.specs.Steps.{ready, unreadiness}
@@ -63,6 +68,45 @@ module _ (i : ℕ) (s : Stream) (g : Group) (n A : ℕ) where
     pub at-home : eqb (s .group) i ≡ true → judgedIn i s g n A ≡ judged s g n A
     unfolding judgedIn
     at-home e = simp (u, e)
+
+-- a frame is refused, and the records stay, or it is processed
+abbrev pub Outcome : ℕ → Stream → Group → ℕ → ℕ → Type 0
+Outcome i s g n A = ((why : Refusal) × (judgedIn i s g n A ≡ refused s g why)) ⊎ ((isSetUp (s .regulator) ≡ true) × (judgedIn i s g n A ≡ processFrame s g (charged n) A))
+
+pub outcome : (i : ℕ) (s : Stream) (g : Group) (n A : ℕ) → Outcome i s g n A
+outcome i s g n A = go (isSetUp (s .regulator)) refl
+  where
+    by : eqb (s .group) i ≡ true → isSetUp (s .regulator) ≡ true → Verdict s g n A → Outcome i s g n A
+    by e u (inl w) = inl (w .0, at-home i s g n A u e ∙ w .1)
+    by e u (inr p) = inr (u, at-home i s g n A u e ∙ p .1)
+
+    home : (t : Bool) → eqb (s .group) i ≡ t → isSetUp (s .regulator) ≡ true → Outcome i s g n A
+    home false e u = inl (Unsound, elsewhere i s g n A u e)
+    home true e u = by e u (verdict s g n A)
+
+    go : (t : Bool) → isSetUp (s .regulator) ≡ t → Outcome i s g n A
+    go false e = inl (NoStream, unset i s g n A e)
+    go true e = home (eqb (s .group) i) refl e
+
+-- what holds of a discarded and of a released frame holds of one that is settled
+pub settles : (P : Judged → Type 0) (s : Stream) (g : Group) (L A T : ℕ) → P (discarded s g A T) → P (released s g L A T) → P (settled s g L A T)
+settles P s g L A T d r = go (leb T (A + g .residence .0)) refl
+  where
+    go : (t : Bool) → leb T (A + g .residence .0) ≡ t → P (settled s g L A T)
+    go true e = rw (in-time s g L A T (leb-true T (A + g .residence .0) e)) r
+    go false e = rw (too-late s g L A T (leb-false T (A + g .residence .0) e)) d
+
+-- ---- of the group's record only the group time, the last arrival and the discard count change
+abbrev pub restamped : Group → Group → Group
+restamped g h = record { used = g .used; class = g .class; residence = g .residence; time = h .time; last = h .last; discards = h .discards }
+
+pub group-kept : (i : ℕ) (s : Stream) (g : Group) (n A : ℕ) → restamped g (judgedIn i s g n A .group) ≡ judgedIn i s g n A .group
+unfolding processFrame discarded released
+group-kept i s g n A = go (outcome i s g n A)
+  where
+    go : Outcome i s g n A → restamped g (judgedIn i s g n A .group) ≡ judgedIn i s g n A .group
+    go (inl w) = rw (w .1)
+    go (inr p) = rw (p .1) (settles (λ j. restamped g (j .group) ≡ j .group) s g (charged n) A (eligibilityTime s g (charged n) A) refl refl)
 
 -- ---- a frame in the run
 module _ (i : ℕ) (g : Group) (ss : List Stream) (k n A : ℕ) where

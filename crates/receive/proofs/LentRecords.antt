@@ -2,30 +2,31 @@
 use mathlib.Core.Path.{_≡_, refl, sym, ap, _∙_}
 use mathlib.Core.Bool.{Bool, true, false, cond}
 use mathlib.Core.List.{List, [], _∷_, map}
+use mathlib.Core.Logic.{inl, inr}
 use Prim.Native.Nat.{ℕ, zero, suc, _<_, min}
 use native.Mathlib.Omega.{arith}
 use lib.IntN.{pos}
 use lib.ListN.{length, getD, set, length-map}
 use Rattle.quantity.specs.Numbers.{numberOf}
-use Rattle.shaper.specs.Numbers.{answerNumber}
-use Rattle.shaper.specs.declared.Answer.{Answer}
+use Rattle.shaper.specs.Frame.{afterRelease, processFrame, eligibilityTime, discarded, released}
+use Rattle.shaper.specs.Numbers.{isSetUp, charged, answerNumber}
 use Rattle.shaper.specs.declared.Group.{Group}
 use Rattle.shaper.specs.declared.Stream.{Stream}
 use Rattle.shaper.specs.declared.Judged.{Judged}
+use Rattle.shaper.specs.declared.Regulator.{Regulator}
 use Rattle.shaper.specs.declared.Regulator.the-variants.{Unset, Bucket}
 use Rattle.bridge.specs.Calls.{groupPlaced, streamPlaced}
 use Rattle.bridge.specs.Numbers.{setUpNumber}
 use Rattle.bridge.specs.Tables.{noStream}
 use Rattle.bridge.specs.declared.PlacedGroup.{PlacedGroup}
 use Rattle.bridge.specs.declared.PlacedStream.{PlacedStream}
-use Rattle.receive.specs.InPlace.{judgedIn, received}
+use Rattle.receive.specs.InPlace.{judgedIn}
 use Rattle.receive.specs.Steps.{ready, unreadiness, mostOfByte, mostOfHalf}
-use Rattle.receive.specs.Firmware.{groupOf, groupRecord, streamOf, streamRecord, streamRecords, rewritten, timeAfter, groupTold, streamTold, frameTold, FrameReceived, lentAfter, frameReceived}
-use Rattle.receive.specs.declared.Received.{Received}
+use Rattle.receive.specs.Firmware.{groupOf, groupRecord, streamOf, streamRecord, streamRecords, rewritten, timeAfter, groupTold, streamTold, frameTold, lentAfter, frameReceived}
 use Rattle.receive.specs.declared.firmware.GroupRecord.{GroupRecord}
 use Rattle.receive.specs.declared.firmware.StreamRecord.{StreamRecord}
 use Rattle.receive.specs.declared.firmware.FrameTold.{FrameTold}
-use Rattle.receive.proofs.InPlaceLaws.{is-stored, is-unready}
+use Rattle.receive.proofs.InPlaceLaws.{is-stored, is-unready, Outcome, outcome, settles, group-kept}
 use Rattle.receive.proofs.WideNumbers.{wide-group, wide-stream, wide-frame}
 
 -- ---- what a record holds, put back where it stood, is the record
@@ -89,16 +90,64 @@ module _ {i′ : ℕ} {h : Group} (g : GroupRecord) (i : ℕ) (ei : i′ ≡ min
         let e : j ≡ judgedIn i (streamOf s) (groupOf g) n A = cc in
         cc
 
+-- ---- of a group's record only three fields change, of a stream's two
+abbrev pub restampedRecord : GroupRecord → GroupRecord → GroupRecord
+restampedRecord g h = record { used = g .used; class = g .class; discards = h .discards; residence = g .residence; time = h .time; last = h .last }
+
+abbrev pub emptiedRecord : StreamRecord → StreamRecord → StreamRecord
+emptiedRecord s x = record { used = s .used; group = s .group; rate = s .rate; burst = s .burst; empty = x .empty; part = x .part }
+
+module _ (i : ℕ) (s : StreamRecord) (g : GroupRecord) (n A : ℕ) where
+  abbrev j : Judged
+  j = judgedIn i (streamOf s) (groupOf g) n A
+
+  pub group-record-kept : restampedRecord g (groupRecord (j .group)) ≡ groupRecord (j .group)
+  unfolding groupRecord groupOf
+  group-record-kept = ap groupRecord (group-kept i (streamOf s) (groupOf g) n A)
+
+  Keeps : Judged → Type 0
+  Keeps x = emptiedRecord s (streamRecord s (x .stream)) ≡ streamRecord s (x .stream)
+
+  stays-itself : emptiedRecord s (streamRecord s (streamOf s)) ≡ streamRecord s (streamOf s)
+  stays-itself = rw (same-stream s)
+
+  released-keeps : (L T : ℕ) → isSetUp (streamOf s .regulator) ≡ true → Keeps (released (streamOf s) (groupOf g) L A T)
+  unfolding Keeps released streamRecord streamOf rewritten afterRelease
+  released-keeps L T = go (s .used) refl
+    where
+      bucket : Regulator
+      bucket = Bucket (record { 0 = s .burst }) (record { ticks = s .empty; part = s .part })
+
+      after : Regulator → StreamRecord
+      after x = rewritten s (s .group) (record { 0 = s .rate }) (afterRelease (s .rate) x L T)
+
+      go : (t : Bool) → s .used ≡ t → isSetUp (cond t bucket Unset) ≡ true → emptiedRecord s (after (cond t bucket Unset)) ≡ after (cond t bucket Unset)
+      go true e u = ap (λ (x : Bool). record { used = x; group = s .group; rate = s .rate; burst = s .burst; empty = after bucket .empty; part = after bucket .part }) e
+      go false e u = let z : _≡_ {A = ℕ} 0 1 = cc in absurd (omega arith)
+
+  pub stream-record-kept : emptiedRecord s (streamRecord s (j .stream)) ≡ streamRecord s (j .stream)
+  unfolding processFrame discarded Keeps
+  stream-record-kept = go (outcome i (streamOf s) (groupOf g) n A)
+    where
+      go : Outcome i (streamOf s) (groupOf g) n A → emptiedRecord s (streamRecord s (j .stream)) ≡ streamRecord s (j .stream)
+      go (inl w) = rw (w .1) stays-itself
+      go (inr p) =
+          let T = eligibilityTime (streamOf s) (groupOf g) (charged n) A in
+          rw (p .1) (settles Keeps (streamOf s) (groupOf g) (charged n) A T stays-itself (released-keeps (charged n) T (p .0)))
+
 -- ---- a frame in the lent run; r is what the by-value call told
 module _ (i : ℕ) (g : GroupRecord) (ss : List StreamRecord) (k n A t : ℕ) where
-  pub frame-stored : (d : StreamRecord) → ready (length ss) k ≡ true → k < length ss → (r : FrameTold) → r ≡ frameTold (getD ss k d) t (judgedIn i (streamOf (getD ss k d)) (groupOf g) n A) → record { number = r .number; time = r .time; group = r .group; streams = set ss k (r .stream) } ≡ frameReceived i g ss k n A t
+  pub frame-stored : (d : StreamRecord) → ready (length ss) k ≡ true → k < length ss → (r : FrameTold) → r ≡ frameTold (getD ss k d) t (judgedIn i (streamOf (getD ss k d)) (groupOf g) n A) → record { number = r .number; time = r .time; group = restampedRecord g (r .group); streams = set ss k (emptiedRecord (getD ss k d) (r .stream)) } ≡ frameReceived i g ss k n A t
   unfolding frameReceived lentAfter frameTold
   frame-stored d e h r y =
-      let j = judgedIn i (streamOf (getD ss k d)) (groupOf g) n A in
+      let s = getD ss k d in
+      let j = judgedIn i (streamOf s) (groupOf g) n A in
       let z = is-stored i (groupOf g) (map streamOf ss) k n A (rw (length-map ss streamOf) e) in
       let w = held ss k d h in
       let o = one-rewritten ss k d (j .stream) h in
-      ap (λ (x : FrameTold). record { number = x .number; time = x .time; group = x .group; streams = set ss k (x .stream) }) y
+      ap (λ (x : FrameTold). record { number = x .number; time = x .time; group = restampedRecord g (x .group); streams = set ss k (emptiedRecord s (x .stream)) }) y
+      ∙ ap (λ (x : GroupRecord). record { number = answerNumber (j .answer); time = timeAfter (j .answer) t; group = x; streams = set ss k (emptiedRecord s (streamRecord s (j .stream))) }) (group-record-kept i s g n A)
+      ∙ ap (λ (x : StreamRecord). record { number = answerNumber (j .answer); time = timeAfter (j .answer) t; group = groupRecord (j .group); streams = set ss k x }) (stream-record-kept i s g n A)
       ∙ ap (λ (xs : List StreamRecord). record { number = answerNumber (j .answer); time = timeAfter (j .answer) t; group = groupRecord (j .group); streams = xs }) o
       ∙ sym (rw (z, w))
 

@@ -11,7 +11,7 @@ use base.Logic.{ent, guard}
 use base.Fml.{fsep, fat}
 use prog.Wp.{Heap}
 use ghost.Atoms.{Atoms, sem}
-use types.Kit.{Given, ‵, _$_, _∵_, !, qed, move, drop, use1, rewrite, check, fsplit, fjoin, fpick, fpack, feqL, feqI, done}
+use types.Kit.{Given, ‵, _$_, _∵_, !, qed, move, drop, use1, rewrite, check, fsplit, fjoin, fpick, fpack, feqI, done}
 use types.SemTy.{cells, Arr}
 use types.Share.{arr-parts}
 use denote.RattleType.{RattleType}

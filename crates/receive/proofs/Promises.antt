@@ -1,23 +1,22 @@
 -- The promises of specs/Promises, proved. Assumes nothing.
 use mathlib.Core.Path.{_≡_, refl, sym, ap, _∙_}
-use mathlib.Core.Bool.{Bool, true, false, not, cond, _&&_}
+use mathlib.Core.Bool.{Bool, true, false, not, cond}
 use mathlib.Core.List.{List, map}
 use mathlib.Core.Logic.{_⊎_, inl, inr}
-use Prim.Native.Nat.{ℕ, _≤_, _<_, _+_}
+use Prim.Native.Nat.{ℕ, _≤_, _<_}
 use native.Mathlib.Omega.{arith}
-use lib.Dec.{leb, eqb}
+use lib.Dec.{eqb}
 use lib.ListN.{length, getD, set, length-set}
 use lib.Seq.{getD-set-other, set-getD}
-use borrow.Author.Tests.{leb-true, leb-false, eq-eqb}
+use borrow.Author.Tests.{eq-eqb}
 use Rattle.quantity.specs.Ranges.{inRange}
 use Rattle.quantity.specs.Numbers.{numberOf}
 use Rattle.quantity.specs.declared.Item.the-variants.{GroupId, StreamId}
 use Rattle.quantity.specs.declared.Refusal.{Refusal}
 use Rattle.quantity.specs.declared.Refusal.the-variants.{Unsound, NoStream, IdRange, SetUpBefore}
-use Rattle.shaper.specs.Frame.{settled, processFrame, eligibilityTime, discarded, released}
+use Rattle.shaper.specs.Frame.{processFrame, eligibilityTime, discarded, released}
 use Rattle.shaper.specs.Numbers.{isSetUp, judged, refused, charged, answerNumber}
 use Rattle.shaper.specs.SetUp.{groupSetUp, streamSetUp}
-use Rattle.shaper.specs.declared.Answer.{Answer}
 use Rattle.shaper.specs.declared.Answer.the-variants.{Refused}
 use Rattle.shaper.specs.declared.Group.{Group}
 use Rattle.shaper.specs.declared.Stream.{Stream}
@@ -26,37 +25,27 @@ use Rattle.shaper.specs.declared.GroupSetUp.{GroupSetUp}
 use Rattle.shaper.specs.declared.GroupSetUp.the-variants as group
 use Rattle.shaper.specs.declared.StreamSetUp.{StreamSetUp}
 use Rattle.shaper.specs.declared.StreamSetUp.the-variants as stream
-use Rattle.shaper.proofs.Judging.{Verdict, verdict, not-set-up, too-late, in-time}
+use Rattle.shaper.proofs.Judging.{not-set-up}
 use Rattle.bridge.specs.Tables.{noGroup, noStream, groupAt, streamAt, withGroup, withStream}
 use Rattle.bridge.specs.Calls.{groupTaken, groupPlaced, streamTaken, streamPlaced, judgedAt, frameStored, frameCalled}
 use Rattle.bridge.specs.Numbers.{setUpNumber}
 use Rattle.bridge.specs.declared.Bridge.{Bridge}
 use Rattle.bridge.specs.declared.Framed.{Framed}
 use Rattle.bridge.specs.declared.SetUp.{SetUp}
-use Rattle.bridge.specs.declared.PlacedGroup.{PlacedGroup}
-use Rattle.bridge.specs.declared.PlacedStream.{PlacedStream}
 use Rattle.bridge.proofs.Places.{same-group as same-groups, same-stream as same-table, frame-id-out, frame-id-in}
 use Rattle.receive.specs.InPlace.{runPlaces, judgedIn, stays, stored, received}
 use Rattle.receive.specs.Steps.{ready, unreadiness}
-use Rattle.receive.specs.Firmware.{groupOf, groupRecord, streamOf, streamRecord, streamRecords, timeAfter, groupTold, streamTold, lentAfter, frameReceived}
+use Rattle.receive.specs.Firmware.{groupOf, groupRecord, streamOf, streamRecords, timeAfter, groupTold, streamTold, lentAfter, frameReceived}
 use Rattle.receive.specs.Promises.{putBack, SameAsFrameCall, OthersStay, RunKeepsItsLength, RefusedStays, RefusedStaysForC, RefusedGroupStays, RefusedStreamStays}
 use Rattle.receive.specs.declared.Received.{Received}
 use Rattle.receive.specs.declared.firmware.GroupRecord.{GroupRecord}
 use Rattle.receive.specs.declared.firmware.StreamRecord.{StreamRecord}
-use Rattle.receive.proofs.InPlaceLaws.{then-stream, is-stored, is-unready, unset, elsewhere, at-home}
+use Rattle.receive.proofs.InPlaceLaws.{then-stream, is-stored, is-unready, unset, at-home, Outcome, outcome, settles}
 use Rattle.receive.proofs.LentRecords.{same-group, same-stream, same-streams}
 
 -- ---- a frame is refused, and the lent records stay, or its number is below 9
-abbrev Outcome : Received → Group → List Stream → Type 0
-Outcome r g ss = ((why : Refusal) × (r ≡ stays g ss why)) ⊎ (answerNumber (r .answer) < numberOf Unsound)
-
-settled-low : (s : Stream) (g : Group) (L A T : ℕ) → answerNumber (settled s g L A T .answer) < numberOf Unsound
-unfolding answerNumber discarded released
-settled-low s g L A T = go (leb T (A + g .residence .0)) refl
-  where
-    go : (t : Bool) → leb T (A + g .residence .0) ≡ t → answerNumber (settled s g L A T .answer) < numberOf Unsound
-    go true e = rw (in-time s g L A T (leb-true T (A + g .residence .0) e)) (omega arith)
-    go false e = rw (too-late s g L A T (leb-false T (A + g .residence .0) e)) (omega arith)
+abbrev Ended : Received → Group → List Stream → Type 0
+Ended r g ss = ((why : Refusal) × (r ≡ stays g ss why)) ⊎ (answerNumber (r .answer) < numberOf Unsound)
 
 module _ (i : ℕ) (g : Group) (ss : List Stream) (k n A : ℕ) where
   abbrev s : Stream
@@ -66,45 +55,34 @@ module _ (i : ℕ) (g : Group) (ss : List Stream) (k n A : ℕ) where
   put-back : (why : Refusal) (j : Judged) → j ≡ refused s g why → stored ss k j ≡ stays g ss why
   put-back why j e = ap (stored ss k) e ∙ ap (λ (xs : List Stream). record { answer = Refused why; group = g; streams = xs }) (set-getD ss k noStream)
 
-  judged-outcome : Outcome (stored ss k (judgedIn i s g n A)) g ss
-  unfolding processFrame
-  judged-outcome = go (isSetUp (s .regulator)) refl
-    where
-      home : (t : Bool) → eqb (s .group) i ≡ t → isSetUp (s .regulator) ≡ true → Outcome (stored ss k (judgedIn i s g n A)) g ss
-      home false e u = inl (Unsound, put-back Unsound _ (elsewhere i s g n A u e))
-      home true e u = by (verdict s g n A)
-        where
-          by : Verdict s g n A → Outcome (stored ss k (judgedIn i s g n A)) g ss
-          by (inl w) = inl (w .0, put-back (w .0) _ (at-home i s g n A u e ∙ w .1))
-          by (inr p) = inr (rw (at-home i s g n A u e ∙ p .1) (settled-low s g (charged n) A (eligibilityTime s g (charged n) A)))
+  judged-ended : Outcome i s g n A → Ended (stored ss k (judgedIn i s g n A)) g ss
+  unfolding processFrame discarded released answerNumber
+  judged-ended (inl w) = inl (w .0, put-back (w .0) _ (w .1))
+  judged-ended (inr p) = inr (rw (p .1) (settles (λ j. answerNumber (j .answer) < numberOf Unsound) s g (charged n) A (eligibilityTime s g (charged n) A) (omega arith) (omega arith)))
 
-      go : (t : Bool) → isSetUp (s .regulator) ≡ t → Outcome (stored ss k (judgedIn i s g n A)) g ss
-      go false e = inl (NoStream, put-back NoStream _ (unset i s g n A e))
-      go true e = home (eqb (s .group) i) refl e
-
-  outcome : Outcome (received i g ss k n A) g ss
-  outcome = go (ready (length ss) k) refl
+  ended : Ended (received i g ss k n A) g ss
+  ended = go (ready (length ss) k) refl
     where
-      go : (t : Bool) → ready (length ss) k ≡ t → Outcome (received i g ss k n A) g ss
-      go true e = rw (is-stored i g ss k n A e) judged-outcome
+      go : (t : Bool) → ready (length ss) k ≡ t → Ended (received i g ss k n A) g ss
+      go true e = rw (is-stored i g ss k n A e) (judged-ended (outcome i s g n A))
       go false e = inl (unreadiness (length ss), is-unready i g ss k n A e)
 
 pub refused-stays : RefusedStays
 unfolding RefusedStays
-refused-stays i g ss k n A low = go (outcome i g ss k n A)
+refused-stays i g ss k n A low = go (ended i g ss k n A)
   where
-    go : Outcome (received i g ss k n A) g ss → (received i g ss k n A .group ≡ g) × (received i g ss k n A .streams ≡ ss)
+    go : Ended (received i g ss k n A) g ss → (received i g ss k n A .group ≡ g) × (received i g ss k n A .streams ≡ ss)
     go (inl w) = (ap (λ (r : Received). r .group) (w .1), ap (λ (r : Received). r .streams) (w .1))
     go (inr h) = absurd (omega (arith, h, low))
 
 pub refused-stays-for-C : RefusedStaysForC
 unfolding RefusedStaysForC frameReceived lentAfter timeAfter
-refused-stays-for-C i g ss k n A t low = go (outcome i (groupOf g) (map streamOf ss) k n A)
+refused-stays-for-C i g ss k n A t low = go (ended i (groupOf g) (map streamOf ss) k n A)
   where
     R : Received
     R = received i (groupOf g) (map streamOf ss) k n A
 
-    go : Outcome R (groupOf g) (map streamOf ss) → (timeAfter (R .answer) t ≡ t) × (groupRecord (R .group) ≡ g) × (streamRecords ss (R .streams) ≡ ss)
+    go : Ended R (groupOf g) (map streamOf ss) → (timeAfter (R .answer) t ≡ t) × (groupRecord (R .group) ≡ g) × (streamRecords ss (R .streams) ≡ ss)
     go (inl w) = (ap (λ (r : Received). timeAfter (r .answer) t) (w .1), ap (λ (r : Received). groupRecord (r .group)) (w .1) ∙ same-group g, ap (λ (r : Received). streamRecords ss (r .streams)) (w .1) ∙ same-streams ss)
     go (inr h) = absurd (omega (arith, h, low))
 

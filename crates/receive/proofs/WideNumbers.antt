@@ -1,15 +1,12 @@
 -- A number that does not fit its field is as far out of range as the field's largest: a call on the narrowed number refuses as the call on the wide one. Assumes nothing.
 use mathlib.Core.Path.{_≡_, refl, sym, ap, _∙_}
 use mathlib.Core.Bool.{Bool, true, false}
-use Prim.Native.Nat.{ℕ, _≤_, _<_, min}
+use Prim.Native.Nat.{ℕ, _≤_, min}
 use native.Mathlib.Omega.{arith}
 use lib.Dec.{leb, eqb}
 use borrow.Author.Tests.{leb-true, leb-false, eqb-true}
-use Rattle.quantity.specs.Ranges.{inRange, mostOf}
-use Rattle.quantity.specs.declared.Item.{Item}
 use Rattle.quantity.specs.declared.Item.the-variants.{StreamId, GroupId, Class, Octets}
-use Rattle.quantity.specs.declared.Refusal.{Refusal}
-use Rattle.quantity.specs.declared.Refusal.the-variants.{Unsound, NoStream}
+use Rattle.quantity.specs.declared.Refusal.the-variants.{Unsound}
 use Rattle.quantity.proofs.Ranges.{too-high}
 use Rattle.quantity.proofs.Booleans.{and-false}
 use Rattle.shaper.specs.Numbers.{isSetUp, judged, refused}
@@ -17,7 +14,7 @@ use Rattle.shaper.specs.SetUp.{groupSetUp, streamSetUp}
 use Rattle.shaper.specs.Sound.{sound, soundGroup}
 use Rattle.shaper.specs.declared.Group.{Group}
 use Rattle.shaper.specs.declared.Stream.{Stream}
-use Rattle.shaper.proofs.Judging.{not-set-up, unsound}
+use Rattle.shaper.proofs.Judging.{unsound}
 use Rattle.bridge.specs.Calls.{groupPlaced, streamPlaced}
 use Rattle.receive.specs.InPlace.{judgedIn}
 use Rattle.receive.specs.Steps.{mostOfByte, mostOfHalf}

@@ -4,7 +4,6 @@ use Prim.Native.Nat.{ℕ}
 use mathlib.Core.Bool.{true, cond}
 use mathlib.Core.List.{List, [], _∷_, map}
 use Rattle.quantity.specs.declared.Rate.{Rate}
-use Rattle.quantity.specs.declared.Bits.{Bits}
 use Rattle.shaper.specs.Frame.{ticks}
 use Rattle.shaper.specs.Numbers.{answerNumber}
 use Rattle.shaper.specs.declared.Group.{Group}

@@ -1,7 +1,7 @@
 -- Document 01, 'The interrupt side': a frame in one lent group's record and a lent run of stream records.
 -- i is the lent group's id, g its record, ss the run, k a stream's id, s its record, n a frame's octets, A its arrival.
 use Prim.Native.Nat.{ℕ}
-use mathlib.Core.Bool.{Bool, not, cond, _&&_}
+use mathlib.Core.Bool.{not, cond}
 use mathlib.Core.List.{List}
 use lib.Dec.{eqb}
 use lib.ListN.{length, getD, set}

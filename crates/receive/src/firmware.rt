@@ -302,8 +302,11 @@ pub extern "C" fn aldurretx_receive(
     if is_ready(streams.len(), stream) {
         let at = stream as usize;
         let told = tell_frame(id, streams[at], *group, octets, arrival, *time);
-        *group = told.group;
-        streams[at] = told.stream;
+        group.discards = told.group.discards;
+        group.time = told.group.time;
+        group.last = told.group.last;
+        streams[at].empty = told.stream.empty;
+        streams[at].part = told.stream.part;
         *time = told.time;
         return told.number;
     } else {

@@ -90,7 +90,9 @@ pub fn receive(
     if is_ready(streams.len(), stream as u64) {
         let at = stream as usize;
         let judged = judge_in(id, streams[at], *group, octets, arrival);
-        *group = judged.group;
+        group.time = judged.group.time;
+        group.last = judged.group.last;
+        group.discards = judged.group.discards;
         streams[at] = judged.stream;
         return judged.answer;
     } else {
