@@ -2,15 +2,24 @@
 -- r is a stream's rate; a span is a length of time as the code holds it.
 use Prim.Native.Nat.{ℕ, suc, _+_, _*_, _<_, _≤_}
 use mathlib.Core.Path.{_≡_}
+use mathlib.Core.Bool.{not, cond}
+use lib.Dec.{ltb}
 use lib.IntN.{ℤ, pos, negsuc, _+ℤ_}
 use Rattle.shaper.specs.declared.Moment.{Moment}
 use Rattle.shaper.specs.declared.Span.{Span}
-use Rattle.quantity.specs.Ranges.{mostOf}
-use Rattle.quantity.specs.declared.Item.the-variants.{StreamRate, Burst, Residence, Arrival}
+use Rattle.quantity.specs.Ranges.{inRange, mostOf}
+use Rattle.quantity.specs.declared.Item.the-variants.{Octets, StreamRate, Burst, Residence, Arrival}
+use Rattle.quantity.specs.declared.Refusal.the-variants.{Unsound, NoStream, LengthRange, AboveBurst, TooLate, BeforeLast}
 use Rattle.shaper.specs.declared.Regulator.{Regulator}
 use Rattle.shaper.specs.declared.Regulator.the-variants.{Unset, Bucket}
 use Rattle.shaper.specs.ExactTime.{bitTime, exactly, orZero}
 use Rattle.shaper.specs.Frame.{F}
+use Rattle.shaper.specs.Sound.{sound}
+use Rattle.shaper.specs.Numbers.{isSetUp, aboveBurst, charged}
+use Rattle.shaper.specs.declared.Group.{Group}
+use Rattle.shaper.specs.declared.Stream.{Stream}
+use Rattle.shaper.specs.declared.Tested.{Tested}
+use Rattle.shaper.specs.declared.Tested.the-variants.{Refused, Charged}
 
 -- how far a whole number is below 0: z is orZero z − shortfall z, and one of the two is 0
 abbrev pub shortfall : ℤ → ℕ
@@ -67,3 +76,15 @@ pub record BucketWorks (r b : ℕ) (e : Moment) (L : ℕ) : Type 0 where
 unfoldable pub Works : ℕ → Regulator → ℕ → Type 0
 Works r Unset L = Unit {0}
 Works r (Bucket b e) L = BucketWorks r (b .0) e L
+
+-- what the tests before judging make of a frame of n octets arriving at A: a refusal, or its charged bits; `judged-by-tests`
+-- in proofs/Judging.antt says that the frame is then refused, or processed with those
+unfoldable pub tested : Stream → Group → ℕ → ℕ → Tested
+tested s g n A =
+    cond (not (isSetUp (s .regulator))) (Refused NoStream)
+    (cond (not (sound s g)) (Refused Unsound)
+    (cond (not (inRange Octets n)) (Refused LengthRange)
+    (cond (aboveBurst (s .regulator) (charged n)) (Refused AboveBurst)
+    (cond (not (inRange Arrival A)) (Refused TooLate)
+    (cond (ltb A (g .last .0)) (Refused BeforeLast)
+    (Charged (record { 0 = charged n })))))))

@@ -5,6 +5,7 @@ use crate::Judged;
 use crate::Moment;
 use crate::Regulator;
 use crate::Stream;
+use crate::Tested;
 use crate::exact::first_tick;
 use crate::exact::lasting;
 use crate::exact::later;
@@ -26,7 +27,7 @@ ghost use Rattle.shaper.specs.ExactTime.{exactly, momentOf};
 ghost use Rattle.shaper.specs.Frame.{E-after, earliest, afterRelease, eligibilityTime, discarded as discardedOf, released as releasedOf, processFrame};
 ghost use Rattle.shaper.specs.Sound.{sound};
 ghost use Rattle.shaper.specs.Numbers.{isSetUp, aboveBurst, refused as refusedOf, judged, answerNumber};
-ghost use Rattle.shaper.specs.Steps.{latestRelease, BucketWorks, Works, StartsAt, ChargedTo};
+ghost use Rattle.shaper.specs.Steps.{latestRelease, BucketWorks, Works, StartsAt, ChargedTo, tested};
 
 // Preamble, start mark and gap, in octets.
 const ORDINARY_OVERHEAD: u8 = 20;
@@ -183,33 +184,44 @@ fn refused(stream: Stream, group: Group, why: Refusal) -> Judged
     }
 }
 
-// One frame through a scheduler: refused, discarded or released, with the records after it.
-pub fn judge(stream: Stream, group: Group, octets: u16, arrival: Ticks) -> Judged
-    ensures { λ r. ⌜ r ≡ judged stream group octets (arrival .0) ⌝ }
+// The tests that stand before judging, in their order. Their own function, so that `judge` has two ways only and the
+// compiler makes one piece of it.
+fn test_frame(stream: Stream, group: Group, octets: u16, arrival: Ticks) -> Tested
+    ensures { λ r. ⌜ r ≡ tested stream group octets (arrival .0) ⌝ }
 {
     let at = arrival.0;
     let last = group.last.0;
     let regulator = stream.regulator;
     if !is_set_up(regulator) {
-        return refused(stream, group, Refusal::NoStream);
+        return Tested::Refused(Refusal::NoStream);
     }
     if !is_sound(stream, group) {
-        return refused(stream, group, Refusal::Unsound);
+        return Tested::Refused(Refusal::Unsound);
     }
     if !in_range(Item::Octets, octets as u64) {
-        return refused(stream, group, Refusal::LengthRange);
+        return Tested::Refused(Refusal::LengthRange);
     }
     let bits = charge(octets, ORDINARY_OVERHEAD);
     if above_burst(regulator, bits) {
-        return refused(stream, group, Refusal::AboveBurst);
+        return Tested::Refused(Refusal::AboveBurst);
     }
     if !in_range(Item::Arrival, at) {
-        return refused(stream, group, Refusal::TooLate);
+        return Tested::Refused(Refusal::TooLate);
     }
     if at < last {
-        return refused(stream, group, Refusal::BeforeLast);
+        return Tested::Refused(Refusal::BeforeLast);
     }
-    process_frame(stream, group, bits, arrival)
+    Tested::Charged(bits)
+}
+
+// One frame through a scheduler: refused, discarded or released, with the records after it.
+pub fn judge(stream: Stream, group: Group, octets: u16, arrival: Ticks) -> Judged
+    ensures { λ r. ⌜ r ≡ judged stream group octets (arrival .0) ⌝ }
+{
+    match test_frame(stream, group, octets, arrival) {
+        Tested::Refused(why) => refused(stream, group, why),
+        Tested::Charged(bits) => process_frame(stream, group, bits, arrival),
+    }
 }
 
 // Document 01's number of an answer.

@@ -70,6 +70,12 @@ pub struct Judged {
     pub group: Group,
 }
 
+// What the tests before judging make of a frame: a refusal, or its charged bits.
+enum Tested {
+    Refused(Refusal),
+    Charged(Bits),
+}
+
 pub enum GroupSetUp {
     Done(Group),
     Refused(Refusal),
