@@ -9,6 +9,7 @@ use quantity::Refusal;
 use quantity::Ticks;
 use shaper::Answer;
 use shaper::Group;
+use shaper::ORDINARY_OVERHEAD;
 use waiting::Entry;
 use waiting::First;
 use waiting::Picked;
@@ -31,9 +32,6 @@ const LAST_CLASS: usize = quantity::MOST_CLASS as usize;
 
 // Later than the time of any entry: the first of a class in which nothing waits.
 const NEVER: u64 = 18_446_744_073_709_551_615;
-
-// Preamble, start mark and gap, in octets.
-const ORDINARY_OVERHEAD: u8 = 20;
 
 const TICKS_PER_SECOND: u64 = 1_000_000_000;
 

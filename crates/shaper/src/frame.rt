@@ -3,6 +3,7 @@ use crate::Answer;
 use crate::Group;
 use crate::Judged;
 use crate::Moment;
+use crate::ORDINARY_OVERHEAD;
 use crate::Regulator;
 use crate::Stream;
 use crate::Tested;
@@ -28,9 +29,6 @@ ghost use Rattle.shaper.specs.Frame.{E-after, earliest, afterRelease, el
 ghost use Rattle.shaper.specs.Sound.{sound};
 ghost use Rattle.shaper.specs.Numbers.{isSetUp, aboveBurst, refused as refusedOf, judged, answerNumber};
 ghost use Rattle.shaper.specs.Steps.{latestRelease, BucketWorks, Works, StartsAt, ChargedTo, tested};
-
-// Preamble, start mark and gap, in octets.
-const ORDINARY_OVERHEAD: u8 = 20;
 
 // The charged bits of a frame on a line that adds so many octets to each.
 pub fn charge(octets: u16, overhead: u8) -> Bits

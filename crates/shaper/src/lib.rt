@@ -17,6 +17,9 @@ use quantity::Ticks;
 pub use set_up::set_up_group;
 pub use set_up::set_up_stream;
 
+// What a line adds to each frame, in octets: preamble, start mark and gap.
+pub const ORDINARY_OVERHEAD: u8 = 20;
+
 // An exact time, of either sign, of a stream of rate r: whole ticks, rounded towards minus infinity, and a remainder
 // below r, counted in r-ths of a tick.
 pub struct Moment {
