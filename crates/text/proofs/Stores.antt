@@ -1,12 +1,14 @@
 -- Laws of runs of stores: one more in front of a run, and what a run does where it fits. Assumes nothing.
 use mathlib.Core.Path.{_≡_, refl, sym, ap, _∙_}
 use mathlib.Core.Bool.{cond}
-use mathlib.Core.List.{List, [], _∷_}
+use mathlib.Core.List.{List, [], _∷_, _++_}
 use Prim.Native.Nat.{ℕ, zero, suc, _+_, _-_, _/_, _%_, _^_, _≤_, _<_}
+use native.Mathlib.Nat.{add-zero}
+use native.Mathlib.Numerals.{add-one}
 use native.Mathlib.Omega.{arith}
 use lib.Dec.{leb}
-use lib.ListN.{length, set}
-use lib.Seq.{sets, set-comm}
+use lib.ListN.{length, set, getD, take}
+use lib.Seq.{sets, set-comm, take-suc, take-all, length-take-le}
 use borrow.Author.Tests.{le-leb, lt-leb}
 use Rattle.quantity.proofs.Booleans.{cond-true, cond-false}
 use Rattle.text.specs.Decimal.{lastDigits, digitCount, decimal}
@@ -55,3 +57,22 @@ decimal-fits l out at k n e h w =
     ap (λ (i : ℕ). record { next = i; bytes = out }) q
     ∙ ap (λ (b : List ℕ). record { next = at + length (decimal n); bytes = b }) p
     ∙ fits l at (decimal n) (omega (arith, q))
+
+-- ---- a text, one byte after the other
+after-run : (ts l : List ℕ) (at v : ℕ) → set (sets l at ts) (at + length ts) v ≡ sets l at (ts ++ (v ∷ []))
+after-run [] l at v = rw (add-zero at)
+after-run (x ∷ ts) l at v =
+    let e : at + suc (length ts) ≡ suc at + length ts = omega arith in
+    rw e (after-run ts (set l at x) (suc at) v)
+
+pub text-more : (l out : List ℕ) (at i : ℕ) (text : List ℕ) → i < length text → out ≡ sets l at (take i text) → set out (at + i) (getD text i 0) ≡ sets l at (take (i + 1) text)
+text-more l out at i text h e =
+    let long : length (take i text) ≡ i = length-take-le i text (omega arith) in
+    let run : set (sets l at (take i text)) (at + i) (getD text i 0) ≡ sets l at (take i text ++ (getD text i 0 ∷ [])) =
+    rw long at (after-run (take i text) l at (getD text i 0)) in
+    rw (e, add-one i, take-suc text i 0 h) run
+
+pub text-fits : (l out : List ℕ) (at i : ℕ) (text : List ℕ) → i ≡ length text → at + i ≤ length l → out ≡ sets l at (take i text) → record { next = at + i; bytes = out } ≡ placed l at text
+text-fits l out at i text n h e =
+    let all : out ≡ sets l at text = e ∙ ap (sets l at) (take-all i text (omega arith)) in
+    rw (all, n) (fits l at text (omega arith))

@@ -1,12 +1,24 @@
-// Text in lent bytes: a byte or a decimal number is put at a place, where it fits, and the next place comes back.
-// The programs' lines are made of these. No file and no record lives here.
+// Text in lent bytes: a byte, a text or a decimal number is put at a place, where it fits, and the next place comes
+// back; and a decimal number is read from lent bytes. The programs' lines are made of these. No file and no record
+// lives here.
 ghost use mathlib.Core.Path.{_≡_};
 ghost use mathlib.Core.List.{[], _∷_};
-ghost use Prim.Native.Nat.{_-_, _≤_, _<_};
+ghost use mathlib.Core.Bool.{Bool};
+ghost use Prim.Native.Nat.{_+_, _-_, _*_, _≤_, _<_, min};
 ghost use lib.ListN.{length};
 ghost use lib.Seq.{sets};
 ghost use Rattle.text.specs.Decimal.{lastDigits, digitCount, decimal};
 ghost use Rattle.text.specs.Places.{Placed, placed};
+ghost use Rattle.text.specs.Numeral.{most, isDigit, numeralOf};
+
+// The largest number of 64 bits.
+const MOST: u64 = 18_446_744_073_709_551_615;
+
+// What lent bytes say as a decimal number. A number above the largest of 64 bits is taken as that one.
+pub enum Numeral {
+    Is(u64),
+    NoNumber,
+}
 
 // How many digits a number has.
 fn digit_count(n: u64) -> usize
@@ -65,4 +77,71 @@ pub fn put_byte(out: &mut [u8], at: usize, byte: u8) -> usize
         return at + 1;
     }
     at
+}
+
+// Puts a text at a place.
+pub fn put_text(out: &mut [u8], at: usize, text: &[u8]) -> usize
+    ensures { λ r. ⌜ record { next = r; bytes = now (out .exit) } ≡ placed (now (out .entry)) at (now (text .entry)) ⌝ }
+{
+    let len = out.len();
+    if len < at {
+        return at;
+    }
+    if len - at < text.len() {
+        return at;
+    }
+    let mut i = 0;
+    while i < text.len() {
+        out[at + i] = text[i];
+        i += 1;
+    }
+    at + i
+}
+
+// How many places a number takes in decimal.
+pub fn decimal_length(n: u64) -> usize
+    ensures { λ r. ⌜ (r ≡ length (decimal n)) × (r ≤ 20) ⌝ }
+{
+    digit_count(n)
+}
+
+fn is_digit(byte: u8) -> bool
+    ensures { λ r. ⌜ r ≡ isDigit byte ⌝ }
+{
+    if byte < b'0' {
+        return false;
+    }
+    byte <= b'9'
+}
+
+// The number with one digit more at its end, as far as 64 bits hold it.
+fn with_digit(n: u64, digit: u8) -> u64
+    requires { ⌜ digit ≤ 9 ⌝ }
+    ensures { λ r. ⌜ r ≡ min (n * 10 + digit) most ⌝ }
+{
+    let last = digit as u64;
+    if n > (MOST - last) / 10 {
+        return MOST;
+    }
+    n * 10 + last
+}
+
+// The decimal number that lent bytes are, if they are one: digits alone, and at least one.
+pub fn number_in(bytes: &[u8]) -> Numeral
+    ensures { λ r. ⌜ r ≡ numeralOf (now (bytes .entry)) ⌝ }
+{
+    if bytes.len() == 0 {
+        return Numeral::NoNumber;
+    }
+    let mut n: u64 = 0;
+    let mut i = 0;
+    while i < bytes.len() {
+        let byte = bytes[i];
+        if !is_digit(byte) {
+            return Numeral::NoNumber;
+        }
+        n = with_digit(n, byte - b'0');
+        i += 1;
+    }
+    Numeral::Is(n)
 }
