@@ -1,6 +1,6 @@
 -- Laws of runs of stores: one more in front of a run, and what a run does where it fits. Assumes nothing.
 use mathlib.Core.Path.{_≡_, refl, sym, ap, _∙_}
-use mathlib.Core.Bool.{cond}
+use mathlib.Core.Bool.{Bool, true, false, cond}
 use mathlib.Core.List.{List, [], _∷_, _++_}
 use Prim.Native.Nat.{ℕ, zero, suc, _+_, _-_, _/_, _%_, _^_, _≤_, _<_}
 use native.Mathlib.Nat.{add-zero}
@@ -8,8 +8,8 @@ use native.Mathlib.Numerals.{add-one}
 use native.Mathlib.Omega.{arith}
 use lib.Dec.{leb}
 use lib.ListN.{length, set, getD, take}
-use lib.Seq.{sets, set-comm, take-suc, take-all, length-take-le}
-use borrow.Author.Tests.{le-leb, lt-leb}
+use lib.Seq.{sets, length-sets, set-comm, take-suc, take-all, length-take-le}
+use borrow.Author.Tests.{le-leb, lt-leb, leb-true}
 use Rattle.quantity.proofs.Booleans.{cond-true, cond-false}
 use Rattle.text.specs.Decimal.{lastDigits, digitCount, decimal}
 use Rattle.text.specs.Places.{Placed, placed}
@@ -76,3 +76,18 @@ pub text-fits : (l out : List ℕ) (at i : ℕ) (text : List ℕ) → i ≡ leng
 text-fits l out at i text n h e =
     let all : out ≡ sets l at text = e ∙ ap (sets l at) (take-all i text (omega arith)) in
     rw (all, n) (fits l at text (omega arith))
+
+-- the next place is in the lent bytes where the one before is, and the bytes are as many
+pub placed-within : (l : List ℕ) (at : ℕ) (ts : List ℕ) (r : ℕ) (o : List ℕ) → record { next = r; bytes = o } ≡ placed l at ts → at ≤ length l → (r ≤ length o) × (length o ≡ length l)
+unfolding placed
+placed-within l at ts r o e h = go (leb (at + length ts) (length l)) refl
+  where
+    go : (t : Bool) → leb (at + length ts) (length l) ≡ t → (r ≤ length o) × (length o ≡ length l)
+    go true is =
+        let p : _≡_ {A = Placed} (record { next = r; bytes = o }) (record { next = at + length ts; bytes = sets l at ts }) = rw is at e in
+        let long : length o ≡ length l = ap (λ (x : Placed). length (x .bytes)) p ∙ length-sets l at ts in
+        (omega (arith, ap (λ (x : Placed). x .next) p, leb-true (at + length ts) (length l) is), long)
+    go false is =
+        let p : _≡_ {A = Placed} (record { next = r; bytes = o }) (record { next = at; bytes = l }) = rw is at e in
+        let long : length o ≡ length l = ap (λ (x : Placed). length (x .bytes)) p in
+        (omega (arith, ap (λ (x : Placed). x .next) p), long)

@@ -1,0 +1,390 @@
+// Replays a table file against a line: reads the file from standard input, sets up its groups and streams, runs its
+// frames against a line of the rate that the first argument gives, free from the moment that the second gives (0 where
+// there is none), and prints each frame's answer, each pick and how the run stopped. Thin: the work is in `yard`
+// and `line`.
+use bridge::Bridge;
+use libc::STDERR_FILENO;
+use libc::STDIN_FILENO;
+use libc::STDOUT_FILENO;
+use line::Stop;
+use quantity::Rate;
+use quantity::Refusal;
+use quantity::Ticks;
+use text::Numeral;
+use yard::End;
+ghost use mathlib.Core.Path.{_≡_};
+ghost use Prim.Native.Nat.{_≤_};
+ghost use lib.ListN.{length};
+ghost use Rattle.io.specs.Counts.{Counts};
+
+// One arrival and one pick for each frame of full lists: the budget always suffices.
+const EVENT_BUDGET: u64 = 131_072;
+
+// No line of the output is longer.
+const LONGEST_LINE: usize = 160;
+
+// What the reading does after a part.
+enum Next {
+    // It needs more input.
+    Refill,
+    // It goes on after a set-up that was refused.
+    GoOn,
+    // It ends, and nothing is run.
+    GiveUp,
+}
+
+// A table file that was read: its bridge, and how many arrivals stand in the lists. Nothing is run where `whole` is
+// false.
+struct Table {
+    whole: bool,
+    count: usize,
+    bridge: Bridge,
+}
+
+// ---- what goes to standard error
+
+fn say(line: &[u8]) {
+    io::write_all(STDERR_FILENO, line);
+}
+
+// `record N: WHAT NUMBER` at the front of a line.
+fn put_note(line: &mut [u8], record: u64, what: &[u8], number: u8) -> usize
+    ensures { λ r. ⌜ Counts r (now (line .exit)) ⌝ }
+{
+    let after_record = text::put_text(line, 0, b"record ");
+    let after_place = text::put_decimal(line, after_record, record);
+    let after_what = text::put_text(line, after_place, what);
+    let after_number = text::put_decimal(line, after_what, number as u64);
+    text::put_byte(line, after_number, b'\n')
+}
+
+fn say_record(record: u64, what: &[u8], number: u8) {
+    let mut line = io::buffer();
+    let end = put_note(&mut line, record, what, number);
+    say(&line[..end]);
+}
+
+// ---- the arguments
+
+// The number that an argument is. No argument that a Linux program is started with is longer than the buffer.
+fn argument(i: usize) -> Numeral {
+    let mut buf = [0u8; 131_072];
+    let length = os::arg(i, &mut buf);
+    text::number_in(&buf[..length])
+}
+
+// ---- the table file
+
+// Says why a part ended, where a reader should know, and what comes next. A record that is cut short by the end of the
+// part may go on in the input.
+fn after_part(why: End, records: u64) -> Next {
+    match why {
+        End::NothingLeft => Next::Refill,
+        End::Unreadable(number) => after_unreadable(number, records),
+        End::NotSetUp(number) => {
+            say_record(
+                records,
+                b": set-up refused, ",
+                quantity::refusal_number(number),
+            );
+            Next::GoOn
+        }
+        End::ListsFull => {
+            say(b"more than 65536 FR records: nothing is run\n");
+            Next::GiveUp
+        }
+    }
+}
+
+fn after_unreadable(why: Refusal, records: u64) -> Next {
+    if let Refusal::CutShort = why {
+        return Next::Refill;
+    }
+    say_unreadable(why, records);
+    Next::GiveUp
+}
+
+fn say_unreadable(why: Refusal, records: u64) {
+    let number = quantity::refusal_number(why);
+    say_record(
+        std::num::wrapping_add_u64(records, 1),
+        b": unreadable, ",
+        number,
+    );
+}
+
+// Moves the bytes from a place up to an end to the front.
+fn move_to_front(buf: &mut [u8], from: usize, end: usize)
+    requires { ⌜ (from ≤ end) × (end ≤ length (now buf)) ⌝ }
+{
+    let mut i = 0;
+    while i < end - from {
+        buf[i] = buf[from + i];
+        i += 1;
+    }
+}
+
+// Reads once, after the bytes that are there, and answers how many are there then.
+fn read_more(buf: &mut [u8], have: usize) -> usize
+    requires { ⌜ have ≤ length (now buf) ⌝ }
+    ensures { λ r. ⌜ (have ≤ r) × (r ≤ length (now (buf .exit))) ⌝ }
+{
+    let got = libc::read(STDIN_FILENO, &mut buf[have..]);
+    if got < 0 {
+        os::fail(b"standard input");
+        return have;
+    }
+    have + io::count(got, &buf[have..])
+}
+
+// Moves what is left to the front and reads on behind it; answers how many bytes are there then.
+fn refill(buf: &mut [u8], from: usize, have: usize) -> usize
+    requires { ⌜ (from ≤ have) × (have ≤ length (now buf)) ⌝ }
+    ensures { λ r. ⌜ r ≤ length (now (buf .exit)) ⌝ }
+{
+    move_to_front(buf, from, have);
+    read_more(buf, have - from)
+}
+
+// The end of the input: what is left of it is a record that is cut short.
+fn at_end(left: usize, records: u64, count: usize, bridge: Bridge) -> Table {
+    if left > 0 {
+        say_unreadable(Refusal::CutShort, records);
+    }
+    Table {
+        whole: left == 0,
+        count,
+        bridge,
+    }
+}
+
+// Reads the whole of standard input. What is still to be gathered stands in the buffer from `from` up to `have`.
+// A proved loop has to end, and nothing says that a file does: it counts its turns, from a number that no run uses up.
+fn read_table(buf: &mut [u8], arrivals: &mut [u64], ids: &mut [u8], octets: &mut [u16]) -> Table {
+    let mut bridge = bridge::fresh();
+    let mut count: usize = 0;
+    let mut records: u64 = 0;
+    let mut from: usize = 0;
+    let mut have: usize = 0;
+    let mut turns = u64::MAX;
+    while turns > 0 {
+        turns -= 1;
+        let part = yard::gather_part(&buf[from..have], bridge, arrivals, ids, octets, count);
+        let why = part.why;
+        let after = part.bridge;
+        bridge = after;
+        count = part.count;
+        from += part.at;
+        records = std::num::wrapping_add_u64(records, part.records as u64);
+        match after_part(why, records) {
+            Next::GoOn => {
+                continue;
+            }
+            Next::GiveUp => {
+                break;
+            }
+            Next::Refill => {
+                let left = have - from;
+                have = refill(buf, from, have);
+                from = 0;
+                if have > left {
+                    continue;
+                }
+                return at_end(left, records, count, bridge);
+            }
+        }
+    }
+    Table {
+        whole: false,
+        count,
+        bridge,
+    }
+}
+
+// ---- standard output
+
+fn flush(out: &[u8], at: usize)
+    requires { ⌜ Counts at (now out) ⌝ }
+{
+    if !io::write_all(STDOUT_FILENO, &out[..at]) {
+        os::fail(b"standard output");
+    }
+}
+
+// The place for the next line: the front of the buffer, which is written out, where a line might not fit any more.
+fn next_line(out: &[u8], at: usize) -> usize
+    requires { ⌜ Counts at (now out) ⌝ }
+    ensures { λ r. ⌜ r ≤ length (now (out .entry)) ⌝ }
+{
+    if out.len() - at < LONGEST_LINE {
+        flush(out, at);
+        return 0;
+    }
+    at
+}
+
+fn smaller(a: usize, b: usize) -> usize
+    ensures { λ r. ⌜ (r ≤ a) × (r ≤ b) ⌝ }
+{
+    if a < b { a } else { b }
+}
+
+// The answers to the first frames, so many of them.
+fn print_answers(out: &mut [u8], at: usize, answers: &[u8], frames: usize) -> usize
+    requires { ⌜ at ≤ length (now out) ⌝ }
+    ensures { λ r. ⌜ Counts r (now (out .exit)) ⌝ }
+{
+    let many = smaller(frames, answers.len());
+    let mut end = at;
+    let mut k = 0;
+    while k < many {
+        end = next_line(out, end);
+        end = yard::put_frame_line(out, end, k as u64, answers[k]);
+        k += 1;
+    }
+    end
+}
+
+// The first picks, so many of them.
+fn print_picks(out: &mut [u8], at: usize, picked: &[u32], moments: &[u64], picks: usize) -> usize
+    requires { ⌜ at ≤ length (now out) ⌝ }
+    ensures { λ r. ⌜ Counts r (now (out .exit)) ⌝ }
+{
+    let many = smaller(smaller(picks, picked.len()), moments.len());
+    let mut end = at;
+    let mut k = 0;
+    while k < many {
+        end = next_line(out, end);
+        end = yard::put_pick_line(out, end, picked[k], moments[k]);
+        k += 1;
+    }
+    end
+}
+
+// The lines of a run that was not refused.
+fn print_run(
+    answers: &[u8],
+    picked: &[u32],
+    moments: &[u64],
+    number: u8,
+    next: usize,
+    free: u64,
+    events: u64,
+    picks: usize,
+) {
+    let mut out = io::large_buffer();
+    let after_answers = print_answers(&mut out, 0, answers, next);
+    let after_picks = print_picks(&mut out, after_answers, picked, moments, picks);
+    let at = next_line(&out, after_picks);
+    let end = yard::put_stop_line(
+        &mut out,
+        at,
+        number,
+        next as u64,
+        free,
+        events,
+        picks as u64,
+    );
+    flush(&out, end);
+}
+
+fn print_refused(number: u8) {
+    let mut out = io::buffer();
+    let end = yard::put_refused_line(&mut out, 0, number);
+    flush(&out, end);
+}
+
+// ---- the run
+
+// Runs the arrivals of the lists, and prints the lines.
+fn run_lists(
+    bridge: Bridge,
+    arrivals: &[u64],
+    ids: &[u8],
+    octets: &[u16],
+    rate: Rate,
+    free: Ticks,
+) {
+    let mut answers = [0u8; 65536];
+    let mut picked = [0u32; 65536];
+    let mut moments = [0u64; 65536];
+    let ran = line::run(
+        bridge,
+        waiting::empty(),
+        arrivals,
+        ids,
+        octets,
+        0,
+        rate,
+        free,
+        EVENT_BUDGET,
+        &mut answers,
+        &mut picked,
+        &mut moments,
+    );
+    let stop = ran.stop;
+    let number = yard::stop_number(stop);
+    if let Stop::Refused(_) = stop {
+        print_refused(number);
+        return;
+    }
+    print_run(
+        &answers,
+        &picked,
+        &moments,
+        number,
+        ran.next,
+        ran.free.0,
+        ran.events,
+        ran.picks,
+    );
+}
+
+// Runs the first arrivals of the lists, as many as the table has.
+fn run_table(table: Table, arrivals: &[u64], ids: &[u8], octets: &[u16], rate: Rate, free: Ticks) {
+    let count = smaller(
+        smaller(table.count, arrivals.len()),
+        smaller(ids.len(), octets.len()),
+    );
+    run_lists(
+        table.bridge,
+        &arrivals[..count],
+        &ids[..count],
+        &octets[..count],
+        rate,
+        free,
+    );
+}
+
+// The lists have 65,536 places, the most that a run takes.
+fn replay(rate: Rate, free: Ticks) {
+    let mut arrivals = [0u64; 65536];
+    let mut ids = [0u8; 65536];
+    let mut octets = [0u16; 65536];
+    let mut buf = io::large_buffer();
+    let table = read_table(&mut buf, &mut arrivals, &mut ids, &mut octets);
+    if table.whole {
+        run_table(table, &arrivals, &ids, &octets, rate, free);
+    }
+}
+
+fn main() {
+    let count = os::arg_count();
+    if count < 2 || count > 3 {
+        say(b"usage: replay LINE-RATE [LINE-FREE] < TABLE\n");
+        return;
+    }
+    let Numeral::Is(rate) = argument(1) else {
+        say(b"replay: the line rate is no number\n");
+        return;
+    };
+    if count == 2 {
+        replay(Rate(rate), Ticks(0));
+        return;
+    }
+    let Numeral::Is(free) = argument(2) else {
+        say(b"replay: line-free is no number\n");
+        return;
+    };
+    replay(Rate(rate), Ticks(free));
+}
