@@ -1,0 +1,93 @@
+-- Laws of what ends a listing: a refusal has its line, and the text is put where it may be. Assumes nothing.
+use mathlib.Core.Path.{_≡_, refl, sym, ap, _∙_}
+use mathlib.Core.Bool.{Bool, true, false, cond, _&&_}
+use mathlib.Core.List.{List, [], _∷_, _++_}
+use Prim.Native.Nat.{ℕ, _+_, _≤_, _<_}
+use native.Mathlib.Omega.{arith}
+use lib.Dec.{ltb, leb}
+use lib.ListN.{length}
+use lib.Seq.{sets}
+use borrow.Author.Tests.{lt-ltb, le-ltb, le-leb, lt-leb}
+use Rattle.quantity.specs.Numbers.{numberOf}
+use Rattle.quantity.specs.declared.Refusal.{Refusal}
+use Rattle.quantity.specs.declared.Refusal.the-variants.{Unsound, NoStream, LengthRange, AboveBurst, TooLate, BeforeLast, IdRange, SetUpBefore, NoGroup, RateRange, BurstRange, ResidenceRange, ClassRange, ClassFull, UnknownMark, CutShort, NoRoom, ListsUnfit, LineUnfit}
+use Rattle.quantity.proofs.Booleans.{and-false, cond-true, cond-false}
+use Rattle.text.specs.Places.{Placed}
+use Rattle.tablefile.specs.Answers.{readingNumber}
+use Rattle.tablefile.specs.declared.Reading.{Reading}
+use Rattle.tablefile.specs.declared.Reading.the-variants.{Found, NothingLeft, Refused}
+use Rattle.bridge.specs.History.{Reply}
+use Rattle.report.specs.Lines.{dash, lineOf}
+use Rattle.report.specs.Listing.{leastRefusal, endLine, ending}
+use Rattle.report.specs.Parts.{lineRoom, endRoom, mostLines, mayEnd, endPut}
+use Rattle.report.specs.Steps.{Put, valuesOf, replyOf, lettersOf}
+use Rattle.report.specs.declared.Answered.{Answered}
+use Rattle.report.specs.declared.Shown.the-variants.{Dash}
+use Rattle.report.specs.declared.Letters.{Letters}
+
+-- ---- the text
+
+refusal-least : (why : Refusal) → leastRefusal ≤ numberOf why
+refusal-least Unsound = omega arith
+refusal-least NoStream = omega arith
+refusal-least LengthRange = omega arith
+refusal-least AboveBurst = omega arith
+refusal-least TooLate = omega arith
+refusal-least BeforeLast = omega arith
+refusal-least IdRange = omega arith
+refusal-least SetUpBefore = omega arith
+refusal-least NoGroup = omega arith
+refusal-least RateRange = omega arith
+refusal-least BurstRange = omega arith
+refusal-least ResidenceRange = omega arith
+refusal-least ClassRange = omega arith
+refusal-least ClassFull = omega arith
+refusal-least UnknownMark = omega arith
+refusal-least CutShort = omega arith
+refusal-least NoRoom = omega arith
+refusal-least ListsUnfit = omega arith
+refusal-least LineUnfit = omega arith
+
+pub refused-ending : (n : ℕ) (why : Refusal) → ending n (numberOf why) ≡ lineOf (n + 1) (dash ∷ dash ∷ []) (record { number = numberOf why; values = [] }) ++ endLine (n + 1)
+unfolding ending
+refused-ending n why =
+    cond-false (ltb (numberOf why) leastRefusal) (endLine n)
+    (lineOf (n + 1) (dash ∷ dash ∷ []) (record { number = numberOf why; values = [] }) ++ endLine (n + 1))
+    (le-ltb (numberOf why) leastRefusal (refusal-least why))
+
+-- with the letters and the number that the code found
+pub refused-text : (n k : ℕ) (why : Refusal) (x : Reading) (letters : Letters) → x ≡ Refused why → letters ≡ lettersOf x → k ≡ numberOf why
+    → lineOf (n + 1) (letters .0 ∷ letters .1 ∷ []) (replyOf (record { number = k; time = Dash })) ++ endLine (n + 1) ≡ ending n (numberOf why)
+unfolding replyOf valuesOf lettersOf
+refused-text n k why x letters e f g =
+    ap (λ (t : Letters). lineOf (n + 1) (t .0 ∷ t .1 ∷ []) (record { number = k; values = [] }) ++ endLine (n + 1)) (f ∙ ap lettersOf e)
+    ∙ ap (λ (i : ℕ). lineOf (n + 1) (dash ∷ dash ∷ []) (record { number = i; values = [] }) ++ endLine (n + 1)) g
+    ∙ sym (refused-ending n why)
+
+pub ending-of : (n : ℕ) {x y : Reading} → x ≡ y → ending n (readingNumber y) ≡ ending n (readingNumber x)
+ending-of n e = ap (λ (z : Reading). ending n (readingNumber z)) (sym e)
+
+-- ---- where it is put
+
+module _ (l : List ℕ) (at n : ℕ) (x : Reading) where
+  stays-if : mayEnd n at (length l) ≡ false → record { next = at; bytes = l } ≡ endPut l at n x
+  unfolding endPut
+  stays-if e =
+      sym (cond-false (mayEnd n at (length l)) (record { next = at + length (ending n (readingNumber x)); bytes = sets l at (ending n (readingNumber x)) }) (record { next = at; bytes = l }) e)
+
+  pub end-no-room : length l < at + (lineRoom + endRoom) → record { next = at; bytes = l } ≡ endPut l at n x
+  unfolding mayEnd
+  end-no-room h = stays-if (rw (lt-leb (at + (lineRoom + endRoom)) (length l) h))
+
+  pub end-no-number : mostLines ≤ n → record { next = at; bytes = l } ≡ endPut l at n x
+  unfolding mayEnd
+  end-no-number h = stays-if (rw (le-ltb n mostLines h) (and-false (leb (at + (lineRoom + endRoom)) (length l))))
+
+  pub end-put : {next : ℕ} {o : List ℕ} → at + (lineRoom + endRoom) ≤ length l → n < mostLines → Put l at (ending n (readingNumber x)) next o → record { next = next; bytes = o } ≡ endPut l at n x
+  unfolding endPut mayEnd
+  end-put {next} {o} h k p =
+      ap (λ (i : ℕ). record { next = i; bytes = o }) (p .ends)
+      ∙ ap (λ (b : List ℕ). record { next = at + length (ending n (readingNumber x)); bytes = b }) (p .stands)
+      ∙ sym
+      (cond-true (mayEnd n at (length l)) (record { next = at + length (ending n (readingNumber x)); bytes = sets l at (ending n (readingNumber x)) }) (record { next = at; bytes = l })
+      (rw (le-leb (at + (lineRoom + endRoom)) (length l) h, lt-ltb n mostLines k)))

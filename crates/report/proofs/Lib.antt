@@ -1,0 +1,5 @@
+pub mod Texts
+pub mod Stepping
+pub mod Endings
+pub mod Calls
+pub mod Underway

@@ -1,0 +1,156 @@
+-- Laws of a listing under way: it starts, a record's line is put and it goes on, and it stops. Assumes nothing.
+use mathlib.Core.Path.{_≡_, refl, sym, ap, _∙_, subst}
+use mathlib.Core.List.{List, [], _∷_, _++_, append-nil, append-assoc}
+use Prim.Native.Nat.{ℕ, zero, suc, _+_, _-_, _≤_, _<_}
+use native.Mathlib.Nat.{zero-add, sub-zero}
+use native.Mathlib.Omega.{arith}
+use lib.ListN.{length, drop, length-append, length-drop}
+use lib.Seq.{sets}
+use Rattle.tablefile.specs.Layout.{mark, kindOf, size}
+use Rattle.tablefile.specs.Reader.{readAt}
+use Rattle.tablefile.specs.declared.Record.{Record}
+use Rattle.tablefile.specs.declared.Reading.{Reading}
+use Rattle.tablefile.specs.declared.Reading.the-variants.{Found}
+use Rattle.tablefile.proofs.Fields.{mark-width}
+use Rattle.tablefile.proofs.OneRecord.{Front, whole, front}
+use Rattle.bridge.specs.History.{Call, Reply, reply, afterCall}
+use Rattle.bridge.specs.declared.Bridge.{Bridge}
+use Rattle.report.specs.Lines.{callOf, lineOf, recordLine}
+use Rattle.report.specs.Parts.{lineRoom, mostLines, Part, onto, mayGoOn, goingOn, stopsAt, partFor, partOf, ListedPart, listedOf, partPut, partListed}
+use Rattle.report.specs.Steps.{Put, replyOf, lettersOf, nextStep}
+use Rattle.report.specs.declared.Answered.{Answered}
+use Rattle.report.specs.declared.Letters.{Letters}
+use Rattle.report.specs.declared.Listed.{Listed}
+use Rattle.report.specs.declared.Step.the-variants.{Ends}
+use Rattle.report.proofs.Texts.{put-then, put-text, put-length}
+use Rattle.report.proofs.Stepping.{Going, ended, goes-on, mark-letters}
+
+-- ---- places
+
+further : (bytes : List ℕ) (p : ℕ) {r : Record} {next : ℕ} → Front (drop p bytes) p (Found r next) → (p < next) × (next ≤ length bytes)
+unfolding size
+further bytes p (whole k left is long) =
+    (omega arith, omega (arith, length-drop p bytes, ap length is, length-append (mark k) left, mark-width k))
+
+-- a record that was found ends at a later place, within the bytes
+pub found-further : (bytes : List ℕ) (p : ℕ) (r : Record) (next : ℕ) → readAt bytes p ≡ Found r next → (p < next) × (next ≤ length bytes)
+unfolding readAt
+found-further bytes p r next e = further bytes p (subst (Front (drop p bytes) p) e (front (drop p bytes) p))
+
+-- ---- one record
+
+-- a record that is found has its line, where it may, and what follows is listed behind it
+pub one-more : (more : ℕ) (bytes : List ℕ) (room : ℕ) (b : Bridge) (n p : ℕ) (r : Record) (next : ℕ) → readAt bytes p ≡ Found r next → lineRoom ≤ room → n < mostLines
+    → partFor (suc more) bytes room b n p ≡ onto (recordLine b n r) (partFor more bytes (room - length (recordLine b n r)) (afterCall b (callOf r)) (n + 1) next)
+unfolding partFor
+one-more more bytes room b n p r next e h k =
+    let go : Record → ℕ → Part =
+    λ q to. onto (recordLine b n q) (partFor more bytes (room - length (recordLine b n q)) (afterCall b (callOf q)) (n + 1) to) in
+    ap (λ (x : Reading). goingOn x (mayGoOn n room) (stopsAt bytes b n p) go) e
+    ∙ goes-on n room r next h k (stopsAt bytes b n p) go
+
+onto-onto : (a b : List ℕ) (x : Part) → onto a (onto b x) ≡ onto (a ++ b) x
+unfolding onto
+onto-onto a b x = rw (append-assoc a b (x .text))
+
+-- the line that was put is the record's
+own-line : (b : Bridge) (n : ℕ) (r : Record) (next : ℕ) (x : Reading) (call : Call) (letters : Letters) (a : Answered)
+    → x ≡ Found r next → callOf r ≡ call → letters ≡ lettersOf x → replyOf a ≡ reply b call
+    → lineOf (n + 1) (letters .0 ∷ letters .1 ∷ []) (replyOf a) ≡ recordLine b n r
+unfolding recordLine lettersOf
+own-line b n r next x call letters a e f g h =
+    ap (λ (t : Letters). lineOf (n + 1) (t .0 ∷ t .1 ∷ []) (replyOf a)) (g ∙ ap lettersOf e)
+    ∙ ap (λ (m : List ℕ). lineOf (n + 1) m (replyOf a)) (mark-letters r)
+    ∙ ap (lineOf (n + 1) (mark (kindOf r))) (h ∙ ap (reply b) (sym f))
+
+-- ---- under way
+
+-- from tables b₀ after n₀ lines to tables b after n lines, the place p and w bytes written: the text that stands at the front, with what is still to be listed, is the whole
+pub record Underway (bytes out₀ : List ℕ) (b₀ : Bridge) (n₀ : ℕ) (b : Bridge) (n p w : ℕ) (out : List ℕ) : Type 0 where
+  pub more : ℕ
+  pub enough : length bytes < p + more
+  pub text : List ℕ
+  pub put : Put out₀ 0 text w out
+  pub within : w ≤ length out₀
+  pub long : length out ≡ length out₀
+  pub inside : p ≤ length bytes
+  pub total : partOf bytes (length out₀) b₀ n₀ ≡ onto text (partFor more bytes (length out₀ - w) b n p)
+
+pub starts : (bytes out : List ℕ) (b : Bridge) (n : ℕ) → Underway bytes out b n b n 0 0 out
+unfolding partOf onto
+starts bytes out b n = record {
+  more = suc (length bytes);
+  enough = omega arith;
+  text = [];
+  put = record { ends = refl; stands = refl };
+  within = omega arith;
+  long = refl;
+  inside = omega arith;
+  total = rw (sub-zero (length out));
+}
+
+module _ (bytes out₀ : List ℕ) (b₀ : Bridge) (n₀ : ℕ) (b : Bridge) (n p w : ℕ) (out : List ℕ) (u : Underway bytes out₀ b₀ n₀ b n p w out) where
+  room-left : length out - w ≡ length out₀ - w
+  room-left = omega (arith, u .long)
+
+  -- where the reader's answer does not let it go on, nothing is left to list
+  nothing-more : (more : ℕ) (y x : Reading) → x ≡ readAt bytes p → Ends y ≡ nextStep x n (length out - w) → partFor more bytes (length out₀ - w) b n p ≡ stopsAt bytes b n p
+  unfolding partFor
+  nothing-more zero y x e s = refl
+  nothing-more (suc more) y x e s =
+      let go : Record → ℕ → Part =
+      λ q to. onto (recordLine b n q) (partFor more bytes (length out₀ - w - length (recordLine b n q)) (afterCall b (callOf q)) (n + 1) to) in
+      ap (λ (z : Reading). goingOn z (mayGoOn n (length out₀ - w)) (stopsAt bytes b n p) go) (sym e)
+      ∙ ap (λ (k : ℕ). goingOn x (mayGoOn n k) (stopsAt bytes b n p) go) (sym room-left)
+      ∙ ended n (length out - w) x y s .1 (stopsAt bytes b n p) go
+
+  pub stops : (y x : Reading) → x ≡ readAt bytes p → Ends y ≡ nextStep x n (length out - w)
+      → record { listed = record { bridge = b; count = n; place = p; reading = y; written = w }; out = out } ≡ partListed bytes b₀ n₀ out₀
+  unfolding partListed partPut listedOf onto stopsAt
+  stops y x e s =
+      let done = u .total ∙ ap (onto (u .text)) (nothing-more (u .more) y x e s) in
+      let read : y ≡ readAt bytes p = ended n (length out - w) x y s .0 ∙ e in
+      let full : u .text ++ [] ≡ u .text = append-nil (u .text) in
+      let count : w ≡ length (u .text ++ []) = omega (arith, u .put .ends, ap length full) in
+      ap (λ (z : Reading). record { listed = record { bridge = b; count = n; place = p; reading = z; written = w }; out = out }) read
+      ∙ ap (λ (k : ℕ). record { listed = record { bridge = b; count = n; place = p; reading = readAt bytes p; written = k }; out = out }) count
+      ∙ ap (λ (o : List ℕ). record { listed = record { bridge = b; count = n; place = p; reading = readAt bytes p; written = length (u .text ++ []) }; out = o }) (u .put .stands ∙ ap (sets out₀ 0) (sym full))
+      ∙ sym (ap (partPut out₀) done)
+
+  -- a record's line was put, and its call made
+  module _ (x : Reading) (at-place : x ≡ readAt bytes p) (call : Call) (next : ℕ) (g : Going x n (length out - w) call next) where
+    pub goes-further : (p < next) × (next ≤ length bytes)
+    goes-further = found-further bytes p (g .made) next (sym at-place ∙ g .found)
+
+    turned : (more : ℕ) → length bytes < p + more → (b' : Bridge) → b' ≡ afterCall b call → (line : List ℕ) → line ≡ recordLine b n (g .made) → (w' : ℕ) → w' ≡ w + length line
+        → (k : ℕ) × (length bytes < next + k) × (partFor more bytes (length out₀ - w) b n p ≡ onto line (partFor k bytes (length out₀ - w') b' (n + 1) next))
+    turned zero h b' e line f w' i = absurd (omega (arith, goes-further .0, goes-further .1))
+    turned (suc more) h b' e line f w' i =
+        let r = g .made in
+        let after : b' ≡ afterCall b (callOf r) = e ∙ ap (afterCall b) (sym (g .called)) in
+        let left : length out₀ - w - length line ≡ length out₀ - w' = omega arith in (
+          more,
+          omega (arith, goes-further .0),
+          one-more more bytes (length out₀ - w) b n p r next (sym at-place ∙ g .found) (omega (arith, g .roomy, room-left)) (g .counts)
+              ∙ ap (λ (l : List ℕ). onto l (partFor more bytes (length out₀ - w - length l) (afterCall b (callOf r)) (n + 1) next)) (sym f)
+              ∙ ap (λ (q : Bridge). onto line (partFor more bytes (length out₀ - w - length line) q (n + 1) next)) (sym after)
+              ∙ ap (λ (k : ℕ). onto line (partFor more bytes k b' (n + 1) next)) left,
+        )
+
+    pub turns : (b' : Bridge) → b' ≡ afterCall b call → (letters : Letters) → letters ≡ lettersOf x → (a : Answered) → replyOf a ≡ reply b call
+        → {w' : ℕ} {out' : List ℕ} → Put out w (lineOf (n + 1) (letters .0 ∷ letters .1 ∷ []) (replyOf a)) w' out' × (w' ≤ w + lineRoom)
+        → Underway bytes out₀ b₀ n₀ b' (n + 1) next w' out'
+    turns b' e letters f a h {w'} {out'} q =
+        let line = lineOf (n + 1) (letters .0 ∷ letters .1 ∷ []) (replyOf a) in
+        let t = turned (u .more) (u .enough) b' e line (own-line b n (g .made) next x call letters a (g .found) (g .called) f h) w' (q .0 .ends) in
+        let p' = put-then (u .text) line (u .put) (q .0) in
+        record {
+          more = t .0;
+          enough = t .1;
+          text = u .text ++ line;
+          put = p';
+          within = omega (arith, q .1, g .roomy, room-left, u .within);
+          long = put-length (u .text ++ line) p';
+          inside = goes-further .1;
+          total = u .total ∙ ap (onto (u .text)) (t .2) ∙ onto-onto (u .text) line (partFor (t .0) bytes (length out₀ - w') b' (n + 1) next);
+        }

@@ -1,0 +1,5 @@
+pub mod Lines
+pub mod Listing
+pub mod Parts
+pub mod Steps
+pub mod Promises

@@ -1,0 +1,387 @@
+// What a record of the table file does to the tables, the line that it gets, and the listing of a part of a file.
+// Reading a record is `tablefile`'s, the calls are `bridge`'s, decimal numbers are `text`'s. Input and output live with
+// the programs. The loop keeps the tables as its own arrays, so that no table is copied for a record.
+use bridge::Bridge;
+use bridge::SetUp;
+use quantity::Bits;
+use quantity::Rate;
+use quantity::Refusal;
+use quantity::Ticks;
+use shaper::Answer;
+use tablefile::Reading;
+use tablefile::Record;
+ghost use mathlib.Core.Path.{_≡_};
+ghost use mathlib.Core.List.{[], _∷_, _++_};
+ghost use Prim.Native.Nat.{_+_, _≤_, _<_};
+ghost use lib.ListN.{length};
+ghost use Rattle.quantity.specs.Numbers.{numberOf};
+ghost use Rattle.text.specs.Decimal.{decimal};
+ghost use Rattle.report.specs.Lines.{space, newline, column, lineOf};
+ghost use Rattle.report.specs.Listing.{endLine, ending};
+ghost use Rattle.report.specs.Parts.{lineRoom, endRoom, mostLines, partListed, endPut};
+ghost use Rattle.report.specs.Steps.{Put, valuesOf, replyOf, setUpAnswer, frameAnswer, lettersOf, stepOf, nextStep};
+
+// No line is longer: 20 digits, a space, two letters, a space, three digits, a space, 20 digits, and the line's end.
+pub const LINE_ROOM: usize = 49;
+
+// No end line is longer: `end`, a space, 20 digits, and the line's end.
+pub const END_ROOM: usize = 25;
+
+// The lines are counted up to this one.
+pub const MOST_LINES: u64 = 18_446_744_073_709_551_615;
+
+// The last column of a line. Public, with the three types that follow, for definitions of other crates.
+pub enum Shown {
+    Time(Ticks),
+    Dash,
+}
+
+// What a record's call answers: document 01's number, and T where there is one.
+pub struct Answered {
+    pub number: u8,
+    pub time: Shown,
+}
+
+// The second column of a line.
+pub struct Letters(pub u8, pub u8);
+
+// What the listing does next: it ends with what the reader gave, or makes a record's call; `next` is the place after the
+// record.
+pub enum Step {
+    Ends(Reading),
+    Group {
+        id: u8,
+        class: u8,
+        residence: Ticks,
+        next: usize,
+    },
+    Stream {
+        id: u8,
+        group: u8,
+        rate: Rate,
+        burst: Bits,
+        next: usize,
+    },
+    Frame {
+        id: u8,
+        octets: u16,
+        arrival: Ticks,
+        next: usize,
+    },
+}
+
+// The listing of a part of a file.
+pub struct Listed {
+    // The tables after the records that have their lines.
+    pub bridge: Bridge,
+    // The lines so far.
+    pub count: u64,
+    // The place after those records, and what the reader gives there.
+    pub place: usize,
+    pub reading: Reading,
+    // The bytes of the lines, which stand at the front of the lent part.
+    pub written: usize,
+}
+
+// ---- what a record does, and what it shows
+
+fn set_up_answer(answer: SetUp) -> Answered
+    ensures { λ r. ⌜ r ≡ setUpAnswer answer ⌝ }
+{
+    match answer {
+        SetUp::Done => Answered {
+            number: 0,
+            time: Shown::Dash,
+        },
+        SetUp::Refused(why) => Answered {
+            number: quantity::refusal_number(why),
+            time: Shown::Dash,
+        },
+    }
+}
+
+fn frame_answer(answer: Answer) -> Answered
+    ensures { λ r. ⌜ r ≡ frameAnswer answer ⌝ }
+{
+    let number = shaper::answer_number(answer);
+    match answer {
+        Answer::Released(time) => Answered {
+            number,
+            time: Shown::Time(time),
+        },
+        Answer::Discarded(time) => Answered {
+            number,
+            time: Shown::Time(time),
+        },
+        Answer::Refused(_) => Answered {
+            number,
+            time: Shown::Dash,
+        },
+    }
+}
+
+// The letters of what the reader gives: a record's mark, and two dashes for what is none.
+fn letters_of(reading: Reading) -> Letters
+    ensures { λ r. ⌜ r ≡ lettersOf reading ⌝ }
+{
+    match reading {
+        Reading::Found { record, next: _ } => {
+            let mark = tablefile::letters(record);
+            Letters(mark[0], mark[1])
+        }
+        Reading::NothingLeft => Letters(b'-', b'-'),
+        Reading::Refused(_) => Letters(b'-', b'-'),
+    }
+}
+
+// The call that a record stands for.
+fn step_of(given: Record, next: usize) -> Step
+    ensures { λ r. ⌜ r ≡ stepOf given next ⌝ }
+{
+    match given {
+        Record::Group {
+            group,
+            class,
+            residence,
+        } => Step::Group {
+            id: group,
+            class,
+            residence,
+            next,
+        },
+        Record::GroupDefault { group, class } => Step::Group {
+            id: group,
+            class,
+            residence: Ticks(tablefile::DEFAULT_RESIDENCE),
+            next,
+        },
+        Record::Stream {
+            stream,
+            group,
+            rate,
+            burst,
+        } => Step::Stream {
+            id: stream,
+            group,
+            rate,
+            burst: Bits(burst as u64),
+            next,
+        },
+        Record::Frame {
+            stream,
+            octets,
+            arrival,
+        } => Step::Frame {
+            id: stream,
+            octets,
+            arrival,
+            next,
+        },
+    }
+}
+
+// Goes on where a record is found, a line has room and its number fits.
+fn next_step(reading: Reading, count: u64, room: usize) -> Step
+    ensures { λ r. ⌜ r ≡ nextStep reading count room ⌝ }
+{
+    match reading {
+        Reading::Found { record, next } => {
+            if room < LINE_ROOM {
+                return Step::Ends(reading);
+            }
+            if count >= MOST_LINES {
+                return Step::Ends(reading);
+            }
+            step_of(record, next)
+        }
+        Reading::NothingLeft => Step::Ends(reading),
+        Reading::Refused(_) => Step::Ends(reading),
+    }
+}
+
+// ---- the text of a line, where there is room for it
+
+// The number of a line and its two letters, with the spaces after them.
+fn put_head(out: &mut [u8], at: usize, number: u64, letters: Letters) -> usize
+    requires { ⌜ at + 24 ≤ length (now out) ⌝ }
+    ensures { λ r. ⌜ Put (now (out .entry)) at (decimal number ++ (space ∷ letters .0 ∷ letters .1 ∷ space ∷ [])) r (now (out .exit)) ⌝ }
+{
+    let after = text::put_decimal(out, at, number);
+    out[after] = b' ';
+    out[after + 1] = letters.0;
+    out[after + 2] = letters.1;
+    out[after + 3] = b' ';
+    after + 4
+}
+
+// The last column.
+fn put_shown(out: &mut [u8], at: usize, time: Shown) -> usize
+    requires { ⌜ at + 20 ≤ length (now out) ⌝ }
+    ensures { λ r. ⌜ Put (now (out .entry)) at (column (valuesOf time)) r (now (out .exit)) ⌝ }
+{
+    match time {
+        Shown::Time(ticks) => text::put_decimal(out, at, ticks.0),
+        Shown::Dash => {
+            out[at] = b'-';
+            at + 1
+        }
+    }
+}
+
+// The number returned and the last column, to the line's end.
+fn put_tail(out: &mut [u8], at: usize, number: u8, time: Shown) -> usize
+    requires { ⌜ at + 25 ≤ length (now out) ⌝ }
+    ensures { λ r. ⌜ Put (now (out .entry)) at (decimal number ++ (space ∷ (column (valuesOf time) ++ (newline ∷ [])))) r (now (out .exit)) × (r ≤ at + 25) ⌝ }
+{
+    let after = text::put_decimal(out, at, number as u64);
+    out[after] = b' ';
+    let last = put_shown(out, after + 1, time);
+    out[last] = b'\n';
+    last + 1
+}
+
+fn put_line(out: &mut [u8], at: usize, number: u64, letters: Letters, answer: Answered) -> usize
+    requires { ⌜ at + lineRoom ≤ length (now out) ⌝ }
+    ensures { λ r. ⌜ Put (now (out .entry)) at (lineOf number (letters .0 ∷ letters .1 ∷ []) (replyOf answer)) r (now (out .exit)) × (r ≤ at + lineRoom) ⌝ }
+{
+    let returned = answer.number;
+    let time = answer.time;
+    let tail = put_head(out, at, number, letters);
+    put_tail(out, tail, returned, time)
+}
+
+// ---- the listing
+
+// Carries out the records of a part of a file, from its start on, and puts their lines at the front of `out`.
+pub fn list_part(bytes: &[u8], bridge: Bridge, count: u64, out: &mut [u8]) -> Listed
+    ensures { λ r. ⌜ record { listed = r; out = now (out .exit) } ≡ partListed (now (bytes .entry)) bridge count (now (out .entry)) ⌝ }
+{
+    let mut groups = bridge.groups;
+    let mut streams = bridge.streams;
+    let mut lines = count;
+    let mut place: usize = 0;
+    let mut written: usize = 0;
+    loop {
+        let reading = tablefile::read(bytes, place);
+        let step = next_step(reading, lines, out.len() - written);
+        match step {
+            Step::Ends(why) => {
+                return Listed {
+                    bridge: Bridge { groups, streams },
+                    count: lines,
+                    place,
+                    reading: why,
+                    written,
+                };
+            }
+            Step::Group {
+                id,
+                class,
+                residence,
+                next,
+            } => {
+                let of = bridge::group_place(id);
+                let placed = bridge::place_group(id, groups[of], class, residence);
+                let after = placed.group;
+                let outcome = placed.answer;
+                let answer = set_up_answer(outcome);
+                groups[of] = after;
+                lines += 1;
+                written = put_line(out, written, lines, letters_of(reading), answer);
+                place = next;
+                continue;
+            }
+            Step::Stream {
+                id,
+                group,
+                rate,
+                burst,
+                next,
+            } => {
+                let at = bridge::stream_place(id);
+                let of = bridge::group_place(group);
+                let placed = bridge::place_stream(id, streams[at], group, groups[of], rate, burst);
+                let after = placed.stream;
+                let outcome = placed.answer;
+                let answer = set_up_answer(outcome);
+                streams[at] = after;
+                lines += 1;
+                written = put_line(out, written, lines, letters_of(reading), answer);
+                place = next;
+                continue;
+            }
+            Step::Frame {
+                id,
+                octets,
+                arrival,
+                next,
+            } => {
+                let at = bridge::stream_place(id);
+                let stream = streams[at];
+                let of = bridge::group_place(stream.group);
+                let judged = bridge::judge_at(id, stream, groups[of], octets, arrival);
+                let stream_after = judged.stream;
+                let group_after = judged.group;
+                let outcome = judged.answer;
+                let answer = frame_answer(outcome);
+                streams[at] = stream_after;
+                groups[of] = group_after;
+                lines += 1;
+                written = put_line(out, written, lines, letters_of(reading), answer);
+                place = next;
+                continue;
+            }
+        }
+    }
+}
+
+// ---- the end of the listing
+
+// The last line: `end` and the count of the lines before it.
+fn put_count(out: &mut [u8], at: usize, count: u64) -> usize
+    requires { ⌜ at + endRoom ≤ length (now out) ⌝ }
+    ensures { λ r. ⌜ Put (now (out .entry)) at (endLine count) r (now (out .exit)) ⌝ }
+{
+    out[at] = b'e';
+    out[at + 1] = b'n';
+    out[at + 2] = b'd';
+    out[at + 3] = b' ';
+    let last = text::put_decimal(out, at + 4, count);
+    out[last] = b'\n';
+    last + 1
+}
+
+// The line of what ended the reading, and the last line.
+fn put_refused(out: &mut [u8], at: usize, count: u64, reading: Reading, why: Refusal) -> usize
+    requires { ⌜ (at + (lineRoom + endRoom) ≤ length (now out)) × ((count < mostLines) × (reading ≡ Reading.Refused why)) ⌝ }
+    ensures { λ r. ⌜ Put (now (out .entry)) at (ending count (numberOf why)) r (now (out .exit)) ⌝ }
+{
+    let answer = Answered {
+        number: quantity::refusal_number(why),
+        time: Shown::Dash,
+    };
+    let last = put_line(out, at, count + 1, letters_of(reading), answer);
+    put_count(out, last, count + 1)
+}
+
+// Puts what ends a listing of so many lines at a place, where the longest such text has room and one more line can be
+// counted.
+pub fn put_end(out: &mut [u8], at: usize, count: u64, reading: Reading) -> usize
+    ensures { λ r. ⌜ record { next = r; bytes = now (out .exit) } ≡ endPut (now (out .entry)) at count reading ⌝ }
+{
+    let len = out.len();
+    if len < at {
+        return at;
+    }
+    if len - at < LINE_ROOM + END_ROOM {
+        return at;
+    }
+    if count >= MOST_LINES {
+        return at;
+    }
+    match reading {
+        Reading::Found { .. } => put_count(out, at, count),
+        Reading::NothingLeft => put_count(out, at, count),
+        Reading::Refused(why) => put_refused(out, at, count, reading, why),
+    }
+}
