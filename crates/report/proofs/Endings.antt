@@ -7,15 +7,21 @@ use native.Mathlib.Omega.{arith}
 use lib.Dec.{ltb, leb}
 use lib.ListN.{length}
 use lib.Seq.{sets}
-use borrow.Author.Tests.{lt-ltb, le-ltb, le-leb, lt-leb}
+use borrow.Author.Tests.{lt-ltb, le-ltb, le-leb, lt-leb, leb-true}
 use Rattle.quantity.specs.Numbers.{numberOf}
 use Rattle.quantity.specs.declared.Refusal.{Refusal}
 use Rattle.quantity.specs.declared.Refusal.the-variants.{Unsound, NoStream, LengthRange, AboveBurst, TooLate, BeforeLast, IdRange, SetUpBefore, NoGroup, RateRange, BurstRange, ResidenceRange, ClassRange, ClassFull, UnknownMark, CutShort, NoRoom, ListsUnfit, LineUnfit}
-use Rattle.quantity.proofs.Booleans.{and-false, cond-true, cond-false}
+use Rattle.quantity.proofs.Booleans.{both, and-false, cond-true, cond-false}
 use Rattle.text.specs.Places.{Placed}
 use Rattle.tablefile.specs.Answers.{readingNumber}
 use Rattle.tablefile.specs.declared.Reading.{Reading}
 use Rattle.tablefile.specs.declared.Reading.the-variants.{Found, NothingLeft, Refused}
+use Rattle.shaper.specs.Numbers.{answerNumber}
+use Rattle.shaper.specs.declared.Answer.{Answer}
+use Rattle.shaper.specs.declared.Answer.the-variants as answer
+use Rattle.bridge.specs.Numbers.{setUpNumber}
+use Rattle.bridge.specs.declared.SetUp.{SetUp}
+use Rattle.bridge.specs.declared.SetUp.the-variants as set-up
 use Rattle.bridge.specs.History.{Reply}
 use Rattle.report.specs.Lines.{dash, lineOf}
 use Rattle.report.specs.Listing.{leastRefusal, endLine, ending}
@@ -27,33 +33,51 @@ use Rattle.report.specs.declared.Letters.{Letters}
 
 -- ---- the text
 
-refusal-least : (why : Refusal) → leastRefusal ≤ numberOf why
-refusal-least Unsound = omega arith
-refusal-least NoStream = omega arith
-refusal-least LengthRange = omega arith
-refusal-least AboveBurst = omega arith
-refusal-least TooLate = omega arith
-refusal-least BeforeLast = omega arith
-refusal-least IdRange = omega arith
-refusal-least SetUpBefore = omega arith
-refusal-least NoGroup = omega arith
-refusal-least RateRange = omega arith
-refusal-least BurstRange = omega arith
-refusal-least ResidenceRange = omega arith
-refusal-least ClassRange = omega arith
-refusal-least ClassFull = omega arith
-refusal-least UnknownMark = omega arith
-refusal-least CutShort = omega arith
-refusal-least NoRoom = omega arith
-refusal-least ListsUnfit = omega arith
-refusal-least LineUnfit = omega arith
+-- a refusal's number is at least 9, and has at most three digits
+pub refusal-number : (why : Refusal) → (leastRefusal ≤ numberOf why) × (numberOf why < 256)
+refusal-number Unsound = (omega arith, omega arith)
+refusal-number NoStream = (omega arith, omega arith)
+refusal-number LengthRange = (omega arith, omega arith)
+refusal-number AboveBurst = (omega arith, omega arith)
+refusal-number TooLate = (omega arith, omega arith)
+refusal-number BeforeLast = (omega arith, omega arith)
+refusal-number IdRange = (omega arith, omega arith)
+refusal-number SetUpBefore = (omega arith, omega arith)
+refusal-number NoGroup = (omega arith, omega arith)
+refusal-number RateRange = (omega arith, omega arith)
+refusal-number BurstRange = (omega arith, omega arith)
+refusal-number ResidenceRange = (omega arith, omega arith)
+refusal-number ClassRange = (omega arith, omega arith)
+refusal-number ClassFull = (omega arith, omega arith)
+refusal-number UnknownMark = (omega arith, omega arith)
+refusal-number CutShort = (omega arith, omega arith)
+refusal-number NoRoom = (omega arith, omega arith)
+refusal-number ListsUnfit = (omega arith, omega arith)
+refusal-number LineUnfit = (omega arith, omega arith)
+
+-- and so has that of any answer
+pub set-up-small : (a : SetUp) → setUpNumber a < 256
+unfolding setUpNumber
+set-up-small set-up.Done = omega arith
+set-up-small (set-up.Refused why) = refusal-number why .1
+
+pub frame-small : (a : Answer) → answerNumber a < 256
+unfolding answerNumber
+frame-small (answer.Released T) = omega arith
+frame-small (answer.Discarded T) = omega arith
+frame-small (answer.Refused why) = refusal-number why .1
+
+pub plain-ending : (n e : ℕ) → e < leastRefusal → ending n e ≡ endLine n
+unfolding ending
+plain-ending n e h =
+    cond-true (ltb e leastRefusal) (endLine n) (lineOf (n + 1) (dash ∷ dash ∷ []) (record { number = e; values = [] }) ++ endLine (n + 1)) (lt-ltb e leastRefusal h)
 
 pub refused-ending : (n : ℕ) (why : Refusal) → ending n (numberOf why) ≡ lineOf (n + 1) (dash ∷ dash ∷ []) (record { number = numberOf why; values = [] }) ++ endLine (n + 1)
 unfolding ending
 refused-ending n why =
     cond-false (ltb (numberOf why) leastRefusal) (endLine n)
     (lineOf (n + 1) (dash ∷ dash ∷ []) (record { number = numberOf why; values = [] }) ++ endLine (n + 1))
-    (le-ltb (numberOf why) leastRefusal (refusal-least why))
+    (le-ltb (numberOf why) leastRefusal (refusal-number why .0))
 
 -- with the letters and the number that the code found
 pub refused-text : (n k : ℕ) (why : Refusal) (x : Reading) (letters : Letters) → x ≡ Refused why → letters ≡ lettersOf x → k ≡ numberOf why
@@ -68,6 +92,10 @@ pub ending-of : (n : ℕ) {x y : Reading} → x ≡ y → ending n (readingNumbe
 ending-of n e = ap (λ (z : Reading). ending n (readingNumber z)) (sym e)
 
 -- ---- where it is put
+
+pub may-end : (n at size : ℕ) → mayEnd n at size ≡ true → at + (lineRoom + endRoom) ≤ size
+unfolding mayEnd
+may-end n at size e = leb-true (at + (lineRoom + endRoom)) size (both (leb (at + (lineRoom + endRoom)) size) (ltb n mostLines) e .0)
 
 module _ (l : List ℕ) (at n : ℕ) (x : Reading) where
   stays-if : mayEnd n at (length l) ≡ false → record { next = at; bytes = l } ≡ endPut l at n x

@@ -3,3 +3,4 @@ pub mod Stepping
 pub mod Endings
 pub mod Calls
 pub mod Underway
+pub mod Promises

@@ -39,7 +39,7 @@ module _ (n room : ℕ) where
   unfolding mayGoOn
   may h k = rw (le-leb lineRoom room h, lt-ltb n mostLines k)
 
-  may-means : mayGoOn n room ≡ true → (lineRoom ≤ room) × (n < mostLines)
+  pub may-means : mayGoOn n room ≡ true → (lineRoom ≤ room) × (n < mostLines)
   unfolding mayGoOn
   may-means e =
       let w = both (leb lineRoom room) (ltb n mostLines) e in

@@ -9,7 +9,10 @@ use native.Mathlib.Omega.{arith}
 use lib.Dec.{ltb, leb}
 use lib.ListN.{length, set, length-append, length-set}
 use lib.Seq.{sets, length-sets}
-use Rattle.report.specs.Lines.{column}
+use Rattle.bridge.specs.History.{Reply}
+use Rattle.report.specs.Lines.{space, newline, column, lineOf}
+use Rattle.report.specs.Listing.{endLine}
+use Rattle.report.specs.Parts.{lineRoom, endRoom}
 use borrow.Author.Tests.{lt-ltb, le-leb}
 use Rattle.quantity.proofs.Booleans.{cond-true}
 use Rattle.text.specs.Decimal.{fewest, digitCount, decimal}
@@ -109,3 +112,23 @@ column-short (T ∷ more) = decimal-short T
 pub head-within : {l o : List ℕ} {at next : ℕ} (n x y z w : ℕ) → Put l at (decimal n ++ (x ∷ y ∷ z ∷ w ∷ [])) next o → (next ≤ at + 24) × (length o ≡ length l)
 head-within n x y z w p =
     (omega (arith, p .ends, length-append (decimal n) (x ∷ y ∷ z ∷ w ∷ []), decimal-short n), put-length (decimal n ++ (x ∷ y ∷ z ∷ w ∷ [])) p)
+
+-- ---- lines
+
+pub line-short : (n : ℕ) (letters : List ℕ) (a : Reply) → length letters ≡ 2 → a .number < 256 → length (lineOf n letters a) ≤ lineRoom
+unfolding lineOf
+line-short n letters a e h =
+    omega (
+      arith,
+      length-append (decimal n) (space ∷ (letters ++ (space ∷ (decimal (a .number) ++ (space ∷ (column (a .values) ++ (newline ∷ []))))))),
+      length-append letters (space ∷ (decimal (a .number) ++ (space ∷ (column (a .values) ++ (newline ∷ []))))),
+      length-append (decimal (a .number)) (space ∷ (column (a .values) ++ (newline ∷ []))),
+      length-append (column (a .values)) (newline ∷ []),
+      decimal-short n,
+      byte-short (a .number) h,
+      column-short (a .values),
+    )
+
+pub end-line-short : (n : ℕ) → length (endLine n) ≤ endRoom
+unfolding endLine
+end-line-short n = omega (arith, length-append (decimal n) (newline ∷ []), decimal-short n)

@@ -3,3 +3,4 @@ pub mod Listing
 pub mod Parts
 pub mod Steps
 pub mod Promises
+pub mod Figures

@@ -1,16 +1,18 @@
 -- Document 01, 'The table file': what is promised of the listing beside the contracts.
 -- Each statement has a name here, and its proof under the same name in the file Promises of proofs/.
-use Prim.Native.Nat.{ℕ}
+use Prim.Native.Nat.{ℕ, _≤_}
 use mathlib.Core.Path.{_≡_}
 use mathlib.Core.List.{List, _++_}
 use lib.ListN.{length, drop}
 use Rattle.tablefile.specs.BigEndian.{AreBytes}
+use Rattle.tablefile.specs.Answers.{nothingLeft, readingNumber}
 use Rattle.tablefile.specs.Meaning.{defaultResidence, inFull}
 use Rattle.tablefile.specs.declared.Record.{Record}
+use Rattle.tablefile.specs.declared.Reading.{Reading}
 use Rattle.bridge.specs.declared.Bridge.{Bridge}
 use Rattle.report.specs.Lines.{callOf}
-use Rattle.report.specs.Listing.{listingFrom}
-use Rattle.report.specs.Parts.{partOf}
+use Rattle.report.specs.Listing.{ending, listingFrom}
+use Rattle.report.specs.Parts.{partOf, endPut}
 
 -- a GD record does what the GR does that it stands for
 abbrev pub DefaultAsInFull : Type 0
@@ -23,3 +25,19 @@ ListingInParts =
     → listingFrom b n (part ++ after)
     ≡ partOf part room b n .text
     ++ listingFrom (partOf part room b n .bridge) (partOf part room b n .count) (drop (partOf part room b n .place) part ++ after)
+
+-- where a part is the whole of what is left and the reader stopped it, with 5, 24 or 25, its lines and what ends the listing are the listing
+abbrev pub ListingToItsEnd : Type 0
+ListingToItsEnd =
+    (bytes : List ℕ) → AreBytes bytes → (room : ℕ) (b : Bridge) (n : ℕ) → nothingLeft ≤ readingNumber (partOf bytes room b n .reading)
+    → listingFrom b n bytes ≡ partOf bytes room b n .text ++ ending (partOf bytes room b n .count) (readingNumber (partOf bytes room b n .reading))
+
+-- a part stops within its bytes, and its lines are within the room
+abbrev pub PartWithin : Type 0
+PartWithin =
+    (bytes : List ℕ) (room : ℕ) (b : Bridge) (n : ℕ)
+    → (partOf bytes room b n .place ≤ length bytes) × (length (partOf bytes room b n .text) ≤ room)
+
+-- what ends a listing stays within the lent bytes
+abbrev pub EndWithin : Type 0
+EndWithin = (l : List ℕ) (at n : ℕ) (x : Reading) → at ≤ length l → endPut l at n x .next ≤ length l
