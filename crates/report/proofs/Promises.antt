@@ -9,7 +9,7 @@ use native.Mathlib.Omega.{arith}
 use lib.Dec.{ltb}
 use lib.ListN.{length, take, drop, length-append, length-drop, length-take, take-append-drop}
 use Rattle.text.specs.Places.{Placed}
-use lib.Seq.{sets, drop-append-add, drop-drop, length-take-le, drop-append-le}
+use lib.Seq.{sets, length-sets, drop-append-add, drop-drop, length-take-le, drop-append-le}
 use Rattle.quantity.specs.Numbers.{numberOf}
 use Rattle.quantity.specs.declared.Refusal.{Refusal}
 use Rattle.quantity.specs.declared.Refusal.the-variants.{UnknownMark, CutShort}
@@ -260,7 +260,11 @@ pub end-within : EndWithin
 unfolding endPut
 end-within l at n x h = go (mayEnd n at (length l)) refl
   where
+    put : Placed
+    put = record { next = at + length (ending n (readingNumber x)); bytes = sets l at (ending n (readingNumber x)) }
+
     go : (t : Bool) → mayEnd n at (length l) ≡ t
-        → cond {A = Placed} t (record { next = at + length (ending n (readingNumber x)); bytes = sets l at (ending n (readingNumber x)) }) (record { next = at; bytes = l }) .next ≤ length l
-    go true e = omega (arith, may-end n at (length l) e, ending-short n x)
-    go false e = h
+        → (cond {A = Placed} t put (record { next = at; bytes = l }) .next ≤ length l)
+        × (length (cond {A = Placed} t put (record { next = at; bytes = l }) .bytes) ≡ length l)
+    go true e = (omega (arith, may-end n at (length l) e, ending-short n x), length-sets l at (ending n (readingNumber x)))
+    go false e = (h, refl)

@@ -38,6 +38,8 @@ PartWithin =
     (bytes : List ℕ) (room : ℕ) (b : Bridge) (n : ℕ)
     → (partOf bytes room b n .place ≤ length bytes) × (length (partOf bytes room b n .text) ≤ room)
 
--- what ends a listing stays within the lent bytes
+-- what ends a listing stays within the lent bytes, which stay as many
 abbrev pub EndWithin : Type 0
-EndWithin = (l : List ℕ) (at n : ℕ) (x : Reading) → at ≤ length l → endPut l at n x .next ≤ length l
+EndWithin =
+    (l : List ℕ) (at n : ℕ) (x : Reading) → at ≤ length l
+    → (endPut l at n x .next ≤ length l) × (length (endPut l at n x .bytes) ≡ length l)
