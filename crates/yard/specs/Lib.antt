@@ -1,3 +1,4 @@
 pub mod Gathering
 pub mod Lines
 pub mod Puts
+pub mod Promises
