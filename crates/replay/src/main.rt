@@ -17,8 +17,14 @@ ghost use Prim.Native.Nat.{_≤_};
 ghost use lib.ListN.{length};
 ghost use Rattle.io.specs.Counts.{Counts};
 
+// The places of each list: as many as a run takes.
+const PLACES: usize = quantity::MOST_LIST_PLACES as usize;
+
 // One arrival and one pick for each frame of full lists: the budget always suffices.
-const EVENT_BUDGET: u64 = 131_072;
+const EVENT_BUDGET: u64 = 2 * quantity::MOST_LIST_PLACES;
+
+// An argument is shorter: Linux takes none that is longer.
+const ARGUMENT_BYTES: usize = 131_072;
 
 // No line of the output is longer.
 const LONGEST_LINE: usize = 160;
@@ -66,9 +72,9 @@ fn say_record(record: u64, what: &[u8], number: u8) {
 
 // ---- the arguments
 
-// The number that an argument is. No argument that a Linux program is started with is longer than the buffer.
+// The number that an argument is.
 fn argument(i: usize) -> Numeral {
-    let mut buf = [0u8; 131_072];
+    let mut buf = [0u8; ARGUMENT_BYTES];
     let length = os::arg(i, &mut buf);
     text::number_in(&buf[..length])
 }
@@ -124,23 +130,32 @@ fn move_to_front(buf: &mut [u8], from: usize, end: usize)
     }
 }
 
-// Reads once, after the bytes that are there, and answers how many are there then.
-fn read_more(buf: &mut [u8], have: usize) -> usize
+// What the buffer holds after a reading: so many bytes, and whether the reading failed.
+struct Held {
+    have: usize,
+    failed: bool,
+}
+
+// Reads once, after the bytes that are there.
+fn read_more(buf: &mut [u8], have: usize) -> Held
     requires { ⌜ have ≤ length (now buf) ⌝ }
-    ensures { λ r. ⌜ (have ≤ r) × (r ≤ length (now (buf .exit))) ⌝ }
+    ensures { λ r. ⌜ r .have ≤ length (now (buf .exit)) ⌝ }
 {
     let got = libc::read(STDIN_FILENO, &mut buf[have..]);
     if got < 0 {
         os::fail(b"standard input");
-        return have;
+        return Held { have, failed: true };
     }
-    have + io::count(got, &buf[have..])
+    Held {
+        have: have + io::count(got, &buf[have..]),
+        failed: false,
+    }
 }
 
-// Moves what is left to the front and reads on behind it; answers how many bytes are there then.
-fn refill(buf: &mut [u8], from: usize, have: usize) -> usize
+// Moves what is left to the front and reads on behind it.
+fn refill(buf: &mut [u8], from: usize, have: usize) -> Held
     requires { ⌜ (from ≤ have) × (have ≤ length (now buf)) ⌝ }
-    ensures { λ r. ⌜ r ≤ length (now (buf .exit)) ⌝ }
+    ensures { λ r. ⌜ r .have ≤ length (now (buf .exit)) ⌝ }
 {
     move_to_front(buf, from, have);
     read_more(buf, have - from)
@@ -185,8 +200,12 @@ fn read_table(buf: &mut [u8], arrivals: &mut [u64], ids: &mut [u8], octets: &mut
             }
             Next::Refill => {
                 let left = have - from;
-                have = refill(buf, from, have);
+                let held = refill(buf, from, have);
+                if held.failed {
+                    break;
+                }
                 from = 0;
+                have = held.have;
                 if have > left {
                     continue;
                 }
@@ -305,9 +324,9 @@ fn run_lists(
     rate: Rate,
     free: Ticks,
 ) {
-    let mut answers = [0u8; 65536];
-    let mut picked = [0u32; 65536];
-    let mut moments = [0u64; 65536];
+    let mut answers = [0u8; PLACES];
+    let mut picked = [0u32; PLACES];
+    let mut moments = [0u64; PLACES];
     let ran = line::run(
         bridge,
         waiting::empty(),
@@ -356,11 +375,11 @@ fn run_table(table: Table, arrivals: &[u64], ids: &[u8], octets: &[u16], rate: R
     );
 }
 
-// The lists have 65,536 places, the most that a run takes.
+// Reads the table file and, where the whole of it could be read, runs it.
 fn replay(rate: Rate, free: Ticks) {
-    let mut arrivals = [0u64; 65536];
-    let mut ids = [0u8; 65536];
-    let mut octets = [0u16; 65536];
+    let mut arrivals = [0u64; PLACES];
+    let mut ids = [0u8; PLACES];
+    let mut octets = [0u16; PLACES];
     let mut buf = io::large_buffer();
     let table = read_table(&mut buf, &mut arrivals, &mut ids, &mut octets);
     if table.whole {

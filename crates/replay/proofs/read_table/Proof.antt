@@ -9,7 +9,7 @@ use Rattle.replay.proofs.read_table.Statement.{statement}
 use Rattle.replay.proofs.read_table.Tie as tie
 
 -- what is still to be gathered stands in the buffer, and nothing that is lent changes its length
-pub record Held (buf₀ arrivals₀ ids₀ octets₀ buf arrivals ids octets : List ℕ) (from have : ℕ) : Type 0 where
+pub record Kept (buf₀ arrivals₀ ids₀ octets₀ buf arrivals ids octets : List ℕ) (from have : ℕ) : Type 0 where
   pub in-order : from ≤ have
   pub inside : have ≤ length buf
   pub buffer : length buf ≡ length buf₀
@@ -19,7 +19,7 @@ pub record Held (buf₀ arrivals₀ ids₀ octets₀ buf arrivals ids octets : L
 
 abbrev Inv-loop : tie.InvT-loop
 Inv-loop buf₀ arrivals₀ ids₀ octets₀ bridge₀ count₀ records₀ from₀ have₀ turns₀ buf arrivals ids octets bridge count records from have turns =
-    Held buf₀ arrivals₀ ids₀ octets₀ buf arrivals ids octets from have
+    Kept buf₀ arrivals₀ ids₀ octets₀ buf arrivals ids octets from have
 
 abbrev μ-loop : tie.MeasureT-loop
 μ-loop buf₀ arrivals₀ ids₀ octets₀ bridge₀ count₀ records₀ from₀ have₀ turns₀ buf arrivals ids octets bridge count records from have turns =
@@ -81,7 +81,7 @@ loop-less-2 c = search needs
 
 loop-again-2 : tie.Need-loop-again-2 Inv-loop μ-loop
 loop-again-2 c =
-    let r = c .before .before .before in
+    let r = c .before .before .before .before in
     let g = r .before .before .before .before .before .before .before .before .before .before .before .before .before .before in
     let l = g .before .before .before .before .before .before .before .loop in
     record { in-order = omega arith; inside = r .refill .ensures; buffer = (omega (arith, r .refill .kept .0, l .inv .buffer)); arrivals-long = (omega (arith, g .gather-part .kept .1 .1 .0, l .inv .arrivals-long)); ids-long = (omega (arith, g .gather-part .kept .1 .1 .1 .0, l .inv .ids-long)); octets-long = (omega (arith, g .gather-part .kept .1 .1 .1 .1 .0, l .inv .octets-long)) }
@@ -91,28 +91,28 @@ at-end-requires c κs = search needs
 
 same-length : tie.Need-same-length Inv-loop μ-loop
 same-length c =
-    let r = c .before .before .before .before in
+    let r = c .before .before .before .before .before in
     let g = r .before .before .before .before .before .before .before .before .before .before .before .before .before .before in
     let l = g .before .before .before .before .before .before .before .loop in
     omega (arith, r .refill .kept .0, l .inv .buffer)
 
 same-length-2 : tie.Need-same-length-2 Inv-loop μ-loop
 same-length-2 c =
-    let r = c .before .before .before .before in
+    let r = c .before .before .before .before .before in
     let g = r .before .before .before .before .before .before .before .before .before .before .before .before .before .before in
     let l = g .before .before .before .before .before .before .before .loop in
     omega (arith, g .gather-part .kept .1 .1 .0, l .inv .arrivals-long)
 
 same-length-3 : tie.Need-same-length-3 Inv-loop μ-loop
 same-length-3 c =
-    let r = c .before .before .before .before in
+    let r = c .before .before .before .before .before in
     let g = r .before .before .before .before .before .before .before .before .before .before .before .before .before .before in
     let l = g .before .before .before .before .before .before .before .loop in
     omega (arith, g .gather-part .kept .1 .1 .1 .0, l .inv .ids-long)
 
 same-length-4 : tie.Need-same-length-4 Inv-loop μ-loop
 same-length-4 c =
-    let r = c .before .before .before .before in
+    let r = c .before .before .before .before .before in
     let g = r .before .before .before .before .before .before .before .before .before .before .before .before .before .before in
     let l = g .before .before .before .before .before .before .before .loop in
     omega (arith, g .gather-part .kept .1 .1 .1 .1 .0, l .inv .octets-long)
@@ -149,6 +149,37 @@ same-length-12 c = search needs
 
 returns-3 : tie.Need-returns-3 Inv-loop μ-loop
 returns-3 c = search needs
+
+same-length-13 : tie.Need-same-length-13 Inv-loop μ-loop
+same-length-13 c =
+    let r = c .before .before .before in
+    let g = r .before .before .before .before .before .before .before .before .before .before .before .before .before .before in
+    let l = g .before .before .before .before .before .before .before .loop in
+    omega (arith, r .refill .kept .0, l .inv .buffer)
+
+same-length-14 : tie.Need-same-length-14 Inv-loop μ-loop
+same-length-14 c =
+    let r = c .before .before .before in
+    let g = r .before .before .before .before .before .before .before .before .before .before .before .before .before .before in
+    let l = g .before .before .before .before .before .before .before .loop in
+    omega (arith, g .gather-part .kept .1 .1 .0, l .inv .arrivals-long)
+
+same-length-15 : tie.Need-same-length-15 Inv-loop μ-loop
+same-length-15 c =
+    let r = c .before .before .before in
+    let g = r .before .before .before .before .before .before .before .before .before .before .before .before .before .before in
+    let l = g .before .before .before .before .before .before .before .loop in
+    omega (arith, g .gather-part .kept .1 .1 .1 .0, l .inv .ids-long)
+
+same-length-16 : tie.Need-same-length-16 Inv-loop μ-loop
+same-length-16 c =
+    let r = c .before .before .before in
+    let g = r .before .before .before .before .before .before .before .before .before .before .before .before .before .before in
+    let l = g .before .before .before .before .before .before .before .loop in
+    omega (arith, g .gather-part .kept .1 .1 .1 .1 .0, l .inv .octets-long)
+
+returns-4 : tie.Need-returns-4 Inv-loop μ-loop
+returns-4 c = search needs
 
 pub read-table-spec : {M : Type 1} → statement M
 read-table-spec =
@@ -190,4 +221,9 @@ read-table-spec =
     same-length-10
     same-length-11
     same-length-12
-    returns-3)
+    returns-3
+    same-length-13
+    same-length-14
+    same-length-15
+    same-length-16
+    returns-4)
