@@ -1,10 +1,11 @@
 -- The promises of the listing, proved: each theorem has the name of its statement in specs/Promises. Assumes nothing.
 use mathlib.Core.Path.{_≡_, refl, sym, ap, _∙_}
+use mathlib.Core.Logic.{_⊎_, inl, inr}
 use mathlib.Core.Bool.{Bool, true, false, cond}
 use mathlib.Core.Option.{Option, none, some}
 use mathlib.Core.List.{List, [], _∷_, _++_, append-assoc, append-nil}
 use Prim.Native.Nat.{ℕ, zero, suc, _+_, _-_, _≤_, _<_}
-use native.Mathlib.Nat.{zero-add, add-assoc, add-zero}
+use native.Mathlib.Nat.{zero-add, sub-zero, add-assoc, add-zero}
 use native.Mathlib.Omega.{arith}
 use lib.Dec.{ltb}
 use lib.ListN.{length, take, drop, length-append, length-drop, length-take, take-append-drop}
@@ -22,15 +23,19 @@ use Rattle.tablefile.specs.declared.Record.{Record}
 use Rattle.tablefile.specs.declared.Record.the-variants as made
 use Rattle.tablefile.specs.declared.Reading.{Reading}
 use Rattle.tablefile.specs.declared.Reading.the-variants.{Found, NothingLeft, Refused}
+use Rattle.tablefile.proofs.Marks.{none-left}
 use Rattle.tablefile.proofs.Fields.{mark-width}
 use Rattle.tablefile.proofs.RoundTrip.{one-at-a-time, found-in-the-whole}
+use Rattle.shaper.specs.Numbers.{answerNumber, answerValues}
+use Rattle.shaper.specs.declared.Answer.{Answer}
+use Rattle.shaper.specs.declared.Answer.the-variants as answer
 use Rattle.bridge.specs.Calls.{groupCalled, streamCalled, frameCalled}
 use Rattle.bridge.specs.History.{Call, group, stream, frame, Reply, reply, afterCall}
 use Rattle.bridge.specs.declared.Bridge.{Bridge}
-use Rattle.report.specs.Lines.{callOf, dash, lineOf, recordLine}
+use Rattle.report.specs.Lines.{callOf, dash, column, lineOf, recordLine}
 use Rattle.report.specs.Listing.{recordLines, endLine, ending, listingOf, listingFrom}
 use Rattle.report.specs.Parts.{lineRoom, endRoom, mayEnd, endPut, Part, onto, mayGoOn, goingOn, stopsAt, partFor, partOf}
-use Rattle.report.specs.Promises.{DefaultAsInFull, ListingInParts, ListingToItsEnd, PartWithin, EndWithin}
+use Rattle.report.specs.Promises.{DefaultAsInFull, AsFarAsItMay, TimeOfJudgedFrames, ListingInParts, ListingToItsEnd, PartWithin, EndWithin}
 use Rattle.report.proofs.Texts.{line-short, end-line-short}
 use Rattle.report.proofs.Stepping.{may-means}
 use Rattle.report.proofs.Endings.{refusal-number, set-up-small, frame-small, plain-ending, refused-ending, may-end}
@@ -268,3 +273,56 @@ end-within l at n x h = go (mayEnd n at (length l)) refl
         × (length (cond {A = Placed} t put (record { next = at; bytes = l }) .bytes) ≡ length l)
     go true e = (omega (arith, may-end n at (length l) e, ending-short n x), length-sets l at (ending n (readingNumber x)))
     go false e = (h, refl)
+
+-- ---- as far as it may
+
+module _ (bytes : List ℕ) where
+  Far : ℕ → Part → Type 0
+  Far room x = (nothingLeft ≤ readingNumber (x .reading)) ⊎ (mayGoOn (x .count) (room - length (x .text)) ≡ false)
+
+  behind : (room : ℕ) (line : List ℕ) (x : Part) → Far (room - length line) x → Far room (onto line x)
+  unfolding Far onto
+  behind room line x (inl h) = inl h
+  behind room line x (inr e) =
+      let left : room - length (line ++ x .text) ≡ room - length line - length (x .text) = omega (arith, length-append line (x .text)) in
+      inr (ap (mayGoOn (x .count)) left ∙ e)
+
+  goes-far : (b : Bridge) (n p room : ℕ) (x : Reading) (t : Bool) → readAt bytes p ≡ x → mayGoOn n room ≡ t → (go : Record → ℕ → Part)
+      → ((r : Record) (next : ℕ) → p < next → Far (room - length (recordLine b n r)) (go r next))
+      → Far room (goingOn x t (stopsAt bytes b n p) (λ r next. onto (recordLine b n r) (go r next)))
+  unfolding goingOn stopsAt Far
+  goes-far b n p room (Found r next) true e m go ih = behind room (recordLine b n r) (go r next) (ih r next (found-further bytes p r next e .0))
+  goes-far b n p room (Found r next) false e m go ih = inr (ap (mayGoOn n) (sub-zero room) ∙ m)
+  goes-far b n p room NothingLeft t e m go ih = inl (omega (arith, ap readingNumber e))
+  goes-far b n p room (Refused why) t e m go ih = inl (omega (arith, ap readingNumber e, refusal-number why .0))
+
+  far : (more room : ℕ) (b : Bridge) (n p : ℕ) → length bytes < p + more → Far room (partFor more bytes room b n p)
+  unfolding partFor stopsAt Far
+  far zero room b n p h = inl (omega (arith, ap readingNumber (none-left bytes p (omega arith))))
+  far (suc more) room b n p h =
+      goes-far b n p room (readAt bytes p) (mayGoOn n room) refl refl
+      (λ r next. partFor more bytes (room - length (recordLine b n r)) (afterCall b (callOf r)) (n + 1) next)
+      (λ r next i. far more (room - length (recordLine b n r)) (afterCall b (callOf r)) (n + 1) next (omega arith))
+
+pub as-far-as-it-may : AsFarAsItMay
+unfolding partOf Far
+as-far-as-it-may bytes room b n = far bytes (suc (length bytes)) room b n 0 (omega arith)
+
+-- ---- T
+
+judged-shown : (a : Answer) → (column (answerValues a) ≡ dash ∷ []) ⊎ (answerNumber a ≤ 1)
+unfolding answerValues answerNumber column
+judged-shown (answer.Released T) = inr (omega arith)
+judged-shown (answer.Discarded T) = inr (omega arith)
+judged-shown (answer.Refused why) = inl refl
+
+of-frame : {A B : Type 0} → A ⊎ B → {k : Kind} → A ⊎ ((k ≡ k) × B)
+of-frame (inl a) = inl a
+of-frame (inr b) = inr (refl, b)
+
+pub time-of-judged-frames : TimeOfJudgedFrames
+unfolding callOf reply column
+time-of-judged-frames b (made.Group i c M) = inl refl
+time-of-judged-frames b (made.GroupDefault i c) = inl refl
+time-of-judged-frames b (made.Stream i k r u) = inl refl
+time-of-judged-frames b (made.Frame i n A) = of-frame (judged-shown (frameCalled b i n (A .0) .answer))

@@ -1,18 +1,22 @@
 -- Document 01, 'The table file': what is promised of the listing beside the contracts.
 -- Each statement has a name here, and its proof under the same name in the file Promises of proofs/.
-use Prim.Native.Nat.{ℕ, _≤_}
+use Prim.Native.Nat.{ℕ, _-_, _≤_}
 use mathlib.Core.Path.{_≡_}
-use mathlib.Core.List.{List, _++_}
+use mathlib.Core.Logic.{_⊎_}
+use mathlib.Core.Bool.{false}
+use mathlib.Core.List.{List, [], _∷_, _++_}
 use lib.ListN.{length, drop}
 use Rattle.tablefile.specs.BigEndian.{AreBytes}
+use Rattle.tablefile.specs.Layout.{FR, kindOf}
 use Rattle.tablefile.specs.Answers.{nothingLeft, readingNumber}
 use Rattle.tablefile.specs.Meaning.{defaultResidence, inFull}
 use Rattle.tablefile.specs.declared.Record.{Record}
 use Rattle.tablefile.specs.declared.Reading.{Reading}
+use Rattle.bridge.specs.History.{reply}
 use Rattle.bridge.specs.declared.Bridge.{Bridge}
-use Rattle.report.specs.Lines.{callOf}
+use Rattle.report.specs.Lines.{callOf, dash, column}
 use Rattle.report.specs.Listing.{ending, listingFrom}
-use Rattle.report.specs.Parts.{partOf, endPut}
+use Rattle.report.specs.Parts.{mayGoOn, partOf, endPut}
 
 -- a GD record does what the GR does that it stands for
 abbrev pub DefaultAsInFull : Type 0
@@ -31,6 +35,18 @@ abbrev pub ListingToItsEnd : Type 0
 ListingToItsEnd =
     (bytes : List ℕ) → AreBytes bytes → (room : ℕ) (b : Bridge) (n : ℕ) → nothingLeft ≤ readingNumber (partOf bytes room b n .reading)
     → listingFrom b n bytes ≡ partOf bytes room b n .text ++ ending (partOf bytes room b n .count) (readingNumber (partOf bytes room b n .reading))
+
+-- it goes as far as it may: where it stops, the reader gave no record, or a longest line has no room or no number
+abbrev pub AsFarAsItMay : Type 0
+AsFarAsItMay =
+    (bytes : List ℕ) (room : ℕ) (b : Bridge) (n : ℕ)
+    → (nothingLeft ≤ readingNumber (partOf bytes room b n .reading))
+    ⊎ (mayGoOn (partOf bytes room b n .count) (room - length (partOf bytes room b n .text)) ≡ false)
+
+-- T is shown of frames with 0 or 1 alone
+abbrev pub TimeOfJudgedFrames : Type 0
+TimeOfJudgedFrames =
+    (b : Bridge) (r : Record) → (column (reply b (callOf r) .values) ≡ dash ∷ []) ⊎ ((kindOf r ≡ FR) × (reply b (callOf r) .number ≤ 1))
 
 -- a part stops within its bytes, and its lines are within the room
 abbrev pub PartWithin : Type 0

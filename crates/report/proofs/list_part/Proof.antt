@@ -25,13 +25,13 @@ loop-holds : tie.Need-loop-holds Inv-loop μ-loop
 loop-holds c = starts _ _ _ _
 
 read-requires : tie.Need-read-requires Inv-loop μ-loop
-read-requires c κs = search needs
+read-requires c κs = tt
 
 sub-next-step : tie.Need-sub-next-step Inv-loop μ-loop
 sub-next-step c = omega (arith, c .before .loop .inv .within, c .before .loop .inv .long)
 
 next-step-requires : tie.Need-next-step-requires Inv-loop μ-loop
-next-step-requires c κs = search needs
+next-step-requires c κs = tt
 
 enum-known-step : tie.Need-enum-known-step Inv-loop μ-loop
 enum-known-step c = search needs
@@ -50,7 +50,7 @@ enum-known-step-2 : tie.Need-enum-known-step-2 Inv-loop μ-loop
 enum-known-step-2 c = search needs
 
 group-place-requires : tie.Need-group-place-requires Inv-loop μ-loop
-group-place-requires c κs = search needs
+group-place-requires c κs = tt
 
 -- what the next step says, where it sets up a group
 group-goes : (c : tie.After-step2 Inv-loop μ-loop)
@@ -70,10 +70,10 @@ array-copy-out-place-group : tie.Need-array-copy-out-place-group Inv-loop μ-loo
 array-copy-out-place-group c = group-in c
 
 place-group-requires : tie.Need-place-group-requires Inv-loop μ-loop
-place-group-requires c κs = search needs
+place-group-requires c κs = tt
 
 set-up-answer-requires : tie.Need-set-up-answer-requires Inv-loop μ-loop
-set-up-answer-requires c κs = search needs
+set-up-answer-requires c κs = tt
 
 mul-groups : tie.Need-mul-groups Inv-loop μ-loop
 mul-groups c = omega (arith, group-in (c .before .before .before .before))
@@ -85,7 +85,7 @@ add-lines : tie.Need-add-lines Inv-loop μ-loop
 add-lines c = omega (arith, group-goes (c .before .before .before .before .before .before) .counts)
 
 letters-of-requires : tie.Need-letters-of-requires Inv-loop μ-loop
-letters-of-requires c κs = search needs
+letters-of-requires c κs = tt
 
 put-line-requires : tie.Need-put-line-requires Inv-loop μ-loop
 put-line-requires c κs = omega (arith, group-goes (c .before .before .before .before .before .before .before .before) .roomy, c .before .before .before .before .before .before .before .before .before .before .before .before .loop .inv .within, c .before .before .before .before .before .before .before .before .before .before .before .before .loop .inv .long)
@@ -112,10 +112,10 @@ enum-known-step-3 : tie.Need-enum-known-step-3 Inv-loop μ-loop
 enum-known-step-3 c = search needs
 
 stream-place-requires : tie.Need-stream-place-requires Inv-loop μ-loop
-stream-place-requires c κs = search needs
+stream-place-requires c κs = tt
 
 group-place-requires-2 : tie.Need-group-place-requires-2 Inv-loop μ-loop
-group-place-requires-2 c κs = search needs
+group-place-requires-2 c κs = tt
 
 -- where it sets up a stream
 stream-goes : (c : tie.After-step3 Inv-loop μ-loop)
@@ -144,10 +144,10 @@ array-copy-out-place-stream-2 : tie.Need-array-copy-out-place-stream-2 Inv-loop 
 array-copy-out-place-stream-2 c = home-in (c .before)
 
 place-stream-requires : tie.Need-place-stream-requires Inv-loop μ-loop
-place-stream-requires c κs = search needs
+place-stream-requires c κs = tt
 
 set-up-answer-requires-2 : tie.Need-set-up-answer-requires-2 Inv-loop μ-loop
-set-up-answer-requires-2 c κs = search needs
+set-up-answer-requires-2 c κs = tt
 
 mul-streams : tie.Need-mul-streams Inv-loop μ-loop
 mul-streams c = omega (arith, stream-in (c .before .before .before .before .before .before))
@@ -159,7 +159,7 @@ add-lines-2 : tie.Need-add-lines-2 Inv-loop μ-loop
 add-lines-2 c = omega (arith, stream-goes (c .before .before .before .before .before .before .before .before) .counts)
 
 letters-of-requires-2 : tie.Need-letters-of-requires-2 Inv-loop μ-loop
-letters-of-requires-2 c κs = search needs
+letters-of-requires-2 c κs = tt
 
 put-line-requires-2 : tie.Need-put-line-requires-2 Inv-loop μ-loop
 put-line-requires-2 c κs = omega (arith, stream-goes (c .before .before .before .before .before .before .before .before .before .before) .roomy, c .before .before .before .before .before .before .before .before .before .before .before .before .before .before .loop .inv .within, c .before .before .before .before .before .before .before .before .before .before .before .before .before .before .loop .inv .long)
@@ -187,7 +187,7 @@ enum-known-step-4 : tie.Need-enum-known-step-4 Inv-loop μ-loop
 enum-known-step-4 c = search needs
 
 stream-place-requires-2 : tie.Need-stream-place-requires-2 Inv-loop μ-loop
-stream-place-requires-2 c κs = search needs
+stream-place-requires-2 c κs = tt
 
 -- and where it is a frame
 frame-goes : (c : tie.After-step4 Inv-loop μ-loop)
@@ -210,7 +210,7 @@ array-copy-out-stream : tie.Need-array-copy-out-stream Inv-loop μ-loop
 array-copy-out-stream c = frame-in c
 
 group-place-requires-3 : tie.Need-group-place-requires-3 Inv-loop μ-loop
-group-place-requires-3 c κs = search needs
+group-place-requires-3 c κs = tt
 
 mul-judge-at : tie.Need-mul-judge-at Inv-loop μ-loop
 mul-judge-at c = omega (arith, frame-home c)
@@ -219,10 +219,10 @@ array-copy-out-judge-at : tie.Need-array-copy-out-judge-at Inv-loop μ-loop
 array-copy-out-judge-at c = frame-home c
 
 judge-at-requires : tie.Need-judge-at-requires Inv-loop μ-loop
-judge-at-requires c κs = search needs
+judge-at-requires c κs = tt
 
 frame-answer-requires : tie.Need-frame-answer-requires Inv-loop μ-loop
-frame-answer-requires c κs = search needs
+frame-answer-requires c κs = tt
 
 mul-streams-2 : tie.Need-mul-streams-2 Inv-loop μ-loop
 mul-streams-2 c = omega (arith, frame-in (c .before .before .before .before .before .before .before))
@@ -240,7 +240,7 @@ add-lines-3 : tie.Need-add-lines-3 Inv-loop μ-loop
 add-lines-3 c = omega (arith, frame-goes (c .before .before .before .before .before .before .before .before .before) .counts)
 
 letters-of-requires-3 : tie.Need-letters-of-requires-3 Inv-loop μ-loop
-letters-of-requires-3 c κs = search needs
+letters-of-requires-3 c κs = tt
 
 put-line-requires-3 : tie.Need-put-line-requires-3 Inv-loop μ-loop
 put-line-requires-3 c κs = omega (arith, frame-goes (c .before .before .before .before .before .before .before .before .before .before .before) .roomy, c .before .before .before .before .before .before .before .before .before .before .before .before .before .before .before .loop .inv .within, c .before .before .before .before .before .before .before .before .before .before .before .before .before .before .before .loop .inv .long)
