@@ -18,7 +18,7 @@ use Rattle.quantity.proofs.Booleans.{cond-true}
 use Rattle.text.specs.Decimal.{fewest, digitCount, decimal}
 use Rattle.text.specs.Places.{Placed, placed}
 use Rattle.text.proofs.Stores.{decimal-length}
-use Rattle.report.specs.Steps.{Put}
+use Rattle.report.specs.Steps.{mostDigits, headRoom, Put}
 
 -- ---- one after the other
 
@@ -63,7 +63,7 @@ few (suc more) k n = go (ltb n (10 ^ k)) (few more (k + 1) n)
     go false h = omega arith
 
 -- a decimal has at most 20 digits
-pub decimal-short : (n : ℕ) → length (decimal n) ≤ 20
+pub decimal-short : (n : ℕ) → length (decimal n) ≤ mostDigits
 unfolding digitCount
 decimal-short n = omega (arith, decimal-length n, few 19 1 n)
 
@@ -84,11 +84,11 @@ pub byte-short : (n : ℕ) → n < 256 → length (decimal n) ≤ 3
 byte-short n h = omega (arith, decimal-length n, few-of-byte n h)
 
 -- a decimal that was placed where 20 digits have room
-pub put-decimal : (l o : List ℕ) (at next n : ℕ) → at + 20 ≤ length l → record { next = next; bytes = o } ≡ placed l at (decimal n) → Put l at (decimal n) next o
+pub put-decimal : (l o : List ℕ) (at next n : ℕ) → at + mostDigits ≤ length l → record { next = next; bytes = o } ≡ placed l at (decimal n) → Put l at (decimal n) next o
 put-decimal l o at next n h e = placed-put l o at next (decimal n) (omega (arith, decimal-short n)) e
 
 -- and what is left behind it
-pub decimal-room : (l o : List ℕ) (at next n k : ℕ) → at + (20 + k) ≤ length l → record { next = next; bytes = o } ≡ placed l at (decimal n) → next + k ≤ length o
+pub decimal-room : (l o : List ℕ) (at next n k : ℕ) → at + (mostDigits + k) ≤ length l → record { next = next; bytes = o } ≡ placed l at (decimal n) → next + k ≤ length o
 decimal-room l o at next n k h e =
     let p = put-decimal l o at next n (omega arith) e in
     omega (arith, p .ends, put-length (decimal n) p, decimal-short n)
@@ -103,13 +103,13 @@ byte-room l o at next n k b h e =
     omega (arith, p .ends, put-length (decimal n) p, byte-short n b)
 
 -- the last column
-pub column-short : (vs : List ℕ) → length (column vs) ≤ 20
+pub column-short : (vs : List ℕ) → length (column vs) ≤ mostDigits
 unfolding column
 column-short [] = omega arith
 column-short (T ∷ more) = decimal-short T
 
 -- the number of a line and its letters
-pub head-within : {l o : List ℕ} {at next : ℕ} (n x y z w : ℕ) → Put l at (decimal n ++ (x ∷ y ∷ z ∷ w ∷ [])) next o → (next ≤ at + 24) × (length o ≡ length l)
+pub head-within : {l o : List ℕ} {at next : ℕ} (n x y z w : ℕ) → Put l at (decimal n ++ (x ∷ y ∷ z ∷ w ∷ [])) next o → (next ≤ at + headRoom) × (length o ≡ length l)
 head-within n x y z w p =
     (omega (arith, p .ends, length-append (decimal n) (x ∷ y ∷ z ∷ w ∷ []), decimal-short n), put-length (decimal n ++ (x ∷ y ∷ z ∷ w ∷ [])) p)
 

@@ -26,6 +26,16 @@ use Rattle.report.specs.declared.Letters.{Letters}
 use Rattle.report.specs.declared.Step.{Step}
 use Rattle.report.specs.declared.Step.the-variants.{Ends, Group, Stream, Frame}
 
+-- the most digits of a number of 64 bits; the most characters of a line up to its letters and the space after them, and from there to its end
+abbrev pub mostDigits : ℕ
+mostDigits = 20
+
+abbrev pub headRoom : ℕ
+headRoom = 24
+
+abbrev pub tailRoom : ℕ
+tailRoom = 25
+
 -- a text was put at a place, and the next place is the one after it
 pub record Put (l : List ℕ) (at : ℕ) (ts : List ℕ) (next : ℕ) (out : List ℕ) : Type 0 where
   pub ends : next ≡ at + length ts

@@ -19,7 +19,7 @@ ghost use Rattle.text.specs.Decimal.{decimal};
 ghost use Rattle.report.specs.Lines.{space, newline, column, lineOf};
 ghost use Rattle.report.specs.Listing.{endLine, ending};
 ghost use Rattle.report.specs.Parts.{lineRoom, endRoom, mostLines, partListed, endPut};
-ghost use Rattle.report.specs.Steps.{Put, valuesOf, replyOf, setUpAnswer, frameAnswer, lettersOf, stepOf, nextStep};
+ghost use Rattle.report.specs.Steps.{mostDigits, headRoom, tailRoom, Put, valuesOf, replyOf, setUpAnswer, frameAnswer, lettersOf, stepOf, nextStep};
 
 // No line is longer: 20 digits, a space, two letters, a space, three digits, a space, 20 digits, and the line's end.
 pub const LINE_ROOM: usize = 49;
@@ -203,7 +203,7 @@ fn next_step(reading: Reading, count: u64, room: usize) -> Step
 
 // The number of a line and its two letters, with the spaces after them.
 fn put_head(out: &mut [u8], at: usize, number: u64, letters: Letters) -> usize
-    requires { ⌜ at + 24 ≤ length (now out) ⌝ }
+    requires { ⌜ at + headRoom ≤ length (now out) ⌝ }
     ensures { λ r. ⌜ Put (now (out .entry)) at (decimal number ++ (space ∷ letters .0 ∷ letters .1 ∷ space ∷ [])) r (now (out .exit)) ⌝ }
 {
     let after = text::put_decimal(out, at, number);
@@ -216,7 +216,7 @@ fn put_head(out: &mut [u8], at: usize, number: u64, letters: Letters) -> usize
 
 // The last column.
 fn put_shown(out: &mut [u8], at: usize, time: Shown) -> usize
-    requires { ⌜ at + 20 ≤ length (now out) ⌝ }
+    requires { ⌜ at + mostDigits ≤ length (now out) ⌝ }
     ensures { λ r. ⌜ Put (now (out .entry)) at (column (valuesOf time)) r (now (out .exit)) ⌝ }
 {
     match time {
@@ -230,8 +230,8 @@ fn put_shown(out: &mut [u8], at: usize, time: Shown) -> usize
 
 // The number returned and the last column, to the line's end.
 fn put_tail(out: &mut [u8], at: usize, number: u8, time: Shown) -> usize
-    requires { ⌜ at + 25 ≤ length (now out) ⌝ }
-    ensures { λ r. ⌜ Put (now (out .entry)) at (decimal number ++ (space ∷ (column (valuesOf time) ++ (newline ∷ [])))) r (now (out .exit)) × (r ≤ at + 25) ⌝ }
+    requires { ⌜ at + tailRoom ≤ length (now out) ⌝ }
+    ensures { λ r. ⌜ Put (now (out .entry)) at (decimal number ++ (space ∷ (column (valuesOf time) ++ (newline ∷ [])))) r (now (out .exit)) × (r ≤ at + tailRoom) ⌝ }
 {
     let after = text::put_decimal(out, at, number as u64);
     out[after] = b' ';

@@ -7,7 +7,7 @@ use native.Mathlib.Omega.{arith}
 use mathlib.Core.List.{List, [], _∷_, _++_, append-assoc}
 use lib.ListN.{length, set, length-set}
 use Rattle.text.specs.Decimal.{decimal}
-use Rattle.report.specs.Steps.{Put}
+use Rattle.report.specs.Steps.{headRoom, Put}
 use Rattle.report.specs.Lines.{column, space, newline, lineOf}
 use Rattle.report.specs.Steps.{valuesOf, replyOf}
 use Rattle.report.proofs.Texts.{put-then, put-text, head-within}
@@ -18,7 +18,7 @@ put-head-requires : tie.Need-put-head-requires
 put-head-requires c κs = search needs
 
 -- the head ends in time, and leaves the room
-head : (c : tie.After-put-head) → (c .put-head .result ≤ c .before .before .before .args .at + 24) × (length (c .put-head .last .0) ≡ length (c .before .before .before .args .out .now))
+head : (c : tie.After-put-head) → (c .put-head .result ≤ c .before .before .before .args .at + headRoom) × (length (c .put-head .last .0) ≡ length (c .before .before .before .args .out .now))
 head c = let a = c .before .before .before .args in head-within (a .number) space (a .letters .0) (a .letters .1) space (c .put-head .ensures)
 
 put-tail-requires : tie.Need-put-tail-requires

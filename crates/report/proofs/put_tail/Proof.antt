@@ -17,7 +17,7 @@ use Rattle.report.proofs.put_tail.Tie as tie
 put-decimal-requires : tie.Need-put-decimal-requires
 put-decimal-requires c κs = search needs
 
--- the places behind the number
+-- the places behind the number, for a space, the last column and the line's end
 room : (c : tie.After-put-decimal) → c .put-decimal .result + 22 ≤ length (c .put-decimal .last .0)
 room c =
     let s = c .before .before .before in
