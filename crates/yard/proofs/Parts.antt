@@ -28,12 +28,12 @@ use Rattle.yard.specs.declared.End.the-variants as end
 use Rattle.yard.specs.declared.Task.{Task}
 use Rattle.yard.specs.declared.Task.the-variants.{Ends, Group, Stream, Frame}
 use Rattle.yard.specs.Gathering.{State, Outcome, ended, taskOf, taskFor, roomIn, taskAt, setUpTaken, afterSetUp, setUp, frameTaken, onward, gatherFrom}
-use Rattle.yard.specs.Promises.{WantsMore, nothing-left, cut-short, after}
+use Rattle.yard.specs.Promises.{WantsMore, nothing-left, cut-short, moved, after}
 use Rattle.yard.proofs.Turns.{Ahead, ends, group, stream, frame, task-ahead, unfolds}
 
 -- ---- further bytes in front
 
--- a reading, a task and a state, so many places on
+-- a reading and a task, so many places on
 moved-reading : ℕ → Reading → Reading
 moved-reading n (Found r next) = Found r (n + next)
 moved-reading n NothingLeft = NothingLeft
@@ -44,9 +44,6 @@ moved-task n (Ends why) = Ends why
 moved-task n (Group i c M next) = Group i c M (n + next)
 moved-task n (Stream i k r u next) = Stream i k r u (n + next)
 moved-task n (Frame i o A next) = Frame i o A (n + next)
-
-unfoldable pub moved : ℕ → ℕ → State → State
-moved n m s = record { at = n + s .at; records = m + s .records; count = s .count; bridge = s .bridge; arrivals = s .arrivals; ids = s .ids; octets = s .octets }
 
 fields-moved : (n : ℕ) (k : Kind) (l : List ℕ) (p : ℕ) → readFields k l (n + p) ≡ moved-reading n (readFields k l p)
 unfolding readFields moved-reading

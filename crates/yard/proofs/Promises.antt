@@ -7,12 +7,17 @@ use native.Mathlib.Omega.{arith}
 use lib.ListN.{length, take, drop, take-append-drop}
 use lib.Seq.{length-take-le}
 use Rattle.yard.specs.Gathering.{State, Outcome, gatherFrom, begun}
-use Rattle.yard.specs.Promises.{OneRecordAtATime, PartsAreOne, EndsForGood, next, after}
+use Rattle.yard.specs.Promises.{OneRecordAtATime, FromAnyPlace, PartsAreOne, EndsForGood, moved, next, after}
 use Rattle.yard.proofs.Turns.{unfolds}
-use Rattle.yard.proofs.Parts.{moved, gather-moved, resumed, Continues, continues}
+use Rattle.yard.proofs.Parts.{gather-moved, resumed, Continues, continues}
 
 pub one-record-at-a-time : OneRecordAtATime
 one-record-at-a-time = unfolds
+
+pub from-any-place : FromAnyPlace
+from-any-place bytes n records i s w =
+    let long : length (take n bytes) ≡ n = length-take-le n bytes i in
+    rw (take-append-drop n bytes, long) at (gather-moved (take n bytes) (drop n bytes) records s w)
 
 pub ends-for-good : EndsForGood
 ends-for-good part rest h s i closed = continues part rest h s i .done closed

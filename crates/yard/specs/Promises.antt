@@ -14,14 +14,17 @@ use Rattle.yard.specs.Gathering.{State, Outcome, taskAt, onward, gatherF
 abbrev pub OneRecordAtATime : Type 0
 OneRecordAtATime = (bytes : List ℕ) (s : State) → gatherFrom bytes s ≡ onward s (taskAt bytes s) (gatherFrom bytes)
 
--- the ends after which more of the file may change what was found: nothing is left, or a record is cut short
-pub data WantsMore : End → Type 0 where
-  nothing-left : WantsMore NothingLeft
-  cut-short : WantsMore (Unreadable CutShort)
-
--- how the next part begins: with the bridge, the lists and the count that were left
-unfoldable pub next : Outcome → State
-next o = begun (o .gathered .bridge) (o .arrivals) (o .ids) (o .octets) (o .gathered .count)
+-- a state so many bytes and so many records on
+unfoldable pub moved : ℕ → ℕ → State → State
+moved bytes records s = record {
+  at = bytes + s .at;
+  records = records + s .records;
+  count = s .count;
+  bridge = s .bridge;
+  arrivals = s .arrivals;
+  ids = s .ids;
+  octets = s .octets;
+}
 
 -- what a gathering gives that begins after so many bytes and so many records
 unfoldable pub after : ℕ → ℕ → Outcome → Outcome
@@ -31,6 +34,21 @@ after bytes records o = record {
   ids = o .ids;
   octets = o .octets;
 }
+
+-- a gathering may begin anywhere, as after a set-up that was refused: what is left, from its front, gives what going on in place gives
+abbrev pub FromAnyPlace : Type 0
+FromAnyPlace =
+    (bytes : List ℕ) (n records : ℕ) → n ≤ length bytes → (s : State) → s .at ≤ length (drop n bytes)
+    → gatherFrom bytes (moved n records s) ≡ after n records (gatherFrom (drop n bytes) s)
+
+-- the ends after which more of the file may change what was found: nothing is left, or a record is cut short
+pub data WantsMore : End → Type 0 where
+  nothing-left : WantsMore NothingLeft
+  cut-short : WantsMore (Unreadable CutShort)
+
+-- how the next part begins: with the bridge, the lists and the count that were left
+unfoldable pub next : Outcome → State
+next o = begun (o .gathered .bridge) (o .arrivals) (o .ids) (o .octets) (o .gathered .count)
 
 -- a part that wants more, and then what is left of it with what follows, give what the whole gives
 abbrev pub PartsAreOne : Type 0
