@@ -80,7 +80,7 @@ __attribute__((noinline)) struct ran run(size_t count, uint64_t rate, uint64_t b
         if (arrives) {
             uint64_t t;
             uint8_t id = ids[r.next], number = judge(id, octets[r.next], arrivals[r.next], &t);
-            if (number == RELEASED && !put(groups[streams[id].group].traffic_class, (uint32_t)r.next, t, 8 * (octets[r.next] + 20u)))
+            if (number == ALDURRETX_DONE && !put(groups[streams[id].group].traffic_class, (uint32_t)r.next, t, 8 * (octets[r.next] + 20u)))
                 number = CLASS_FULL;
             answers[r.next++] = number;
         } else {

@@ -2,126 +2,49 @@
  * file and decimal text. The same tests and the same algorithm in 64-bit numbers as the proved rooms, no proofs. */
 #ifndef YARD_H
 #define YARD_H
-#include <stdbool.h>
-#include <stdint.h>
 #include <string.h>
 #include <unistd.h>
 
-#define BILLION 1000000000
+#define TESTED
+#include "judge.h"
+
 #define BUFFER 65536
 
-enum { RELEASED = 0, DISCARDED = 1, NOTHING_LEFT = 5, UNSOUND = 9, NO_STREAM, LENGTH_RANGE, ABOVE_BURST, TOO_LATE, BEFORE_LAST, ID_RANGE,
-       SET_UP_BEFORE, NO_GROUP, RATE_RANGE, BURST_RANGE, RESIDENCE_RANGE, CLASS_RANGE, CLASS_FULL, UNKNOWN_MARK = 24,
-       CUT_SHORT = 25 };
+/* beside those of aldurretx.h */
+enum { NOTHING_LEFT = 5, CLASS_FULL = 22, UNKNOWN_MARK = 24, CUT_SHORT = 25 };
 
-struct group {
-    bool used;
-    uint8_t traffic_class;
-    uint32_t discards;
-    uint64_t residence, time, last;
-};
-
-struct stream {
-    bool used;
-    uint8_t group;
-    uint64_t rate, burst;
-    int64_t empty;
-    uint64_t part;
-};
-
-static struct group groups[16];
-static struct stream streams[64];
-
-/* ---- one frame, as in plain.c */
-
-struct span {
-    uint64_t ticks, part;
-};
-
-static struct span lasting(uint64_t bits, uint64_t rate) {
-    uint64_t parts = bits * BILLION;
-    return (struct span){parts / rate, parts % rate};
-}
-
-/* the moment that is a span after (ticks, part) */
-static void later(int64_t *ticks, uint64_t *part, struct span s, uint64_t rate) {
-    *ticks += (int64_t)s.ticks;
-    *part += s.part;
-    if (*part >= rate) {
-        *part -= rate;
-        *ticks += 1;
-    }
-}
-
-static uint64_t first_tick(int64_t ticks, uint64_t part) { return ticks < 0 ? 0 : (uint64_t)ticks + (part > 0); }
-
-static bool sound_group(const struct group *g) {
-    return g->used && g->traffic_class <= 7 && g->residence <= 10000000000u && g->last <= 4000000000000000000u &&
-           g->time <= g->last + g->residence;
-}
+static struct aldurretx_group groups[16];
+static struct aldurretx_stream streams[ALDURRETX_STREAMS];
 
 static uint8_t judge(uint8_t stream, uint64_t octets, uint64_t arrival, uint64_t *time) {
-    if (stream >= 64) return NO_STREAM;
-    struct stream *s = &streams[stream];
-    if (!s->used) return NO_STREAM;
-    uint64_t rate = s->rate, burst = s->burst;
-    if (s->group > 15) return UNSOUND;
-    struct group *g = &groups[s->group];
-    if (!sound_group(g)) return UNSOUND;
-    if (rate < 1000 || rate > 10000000000u || burst < 1 || burst > 16000000 || s->part >= rate) return UNSOUND;
-    if (first_tick(s->empty, s->part) > g->time) return UNSOUND;
-    int64_t full = s->empty;
-    uint64_t full_part = s->part;
-    later(&full, &full_part, lasting(burst, rate), rate);
-    if (full < 0) return UNSOUND;
-    if (octets < 1 || octets > 2000) return LENGTH_RANGE;
-    uint64_t bits = 8 * (octets + 20);
-    if (bits > burst) return ABOVE_BURST;
-    if (arrival > 4000000000000000000u) return TOO_LATE;
-    if (arrival < g->last) return BEFORE_LAST;
-    int64_t start = s->empty;
-    uint64_t start_part = s->part;
-    later(&start, &start_part, lasting(bits, rate), rate);
-    uint64_t t = first_tick(start, start_part);
-    if (t < g->time) t = g->time;
-    if (t < arrival) t = arrival;
-    *time = t;
-    g->last = arrival;
-    if (t > arrival + g->residence) {
-        g->discards += 1;
-        return DISCARDED;
-    }
-    g->time = t;
-    if (t >= first_tick(full, full_part)) {
-        struct span over = {t - (uint64_t)full - (full_part > 0), full_part ? rate - full_part : 0};
-        later(&start, &start_part, over, rate);
-    }
-    s->empty = start;
-    s->part = start_part;
-    return RELEASED;
+    if (stream >= ALDURRETX_STREAMS) return ALDURRETX_NO_STREAM;
+    struct aldurretx_stream *s = &streams[stream];
+    if (!s->used) return ALDURRETX_NO_STREAM;
+    if (s->group > 15) return ALDURRETX_UNSOUND;
+    return judge_frame(&groups[s->group], s, octets, arrival, time);
 }
 
 /* ---- set-up */
 
 static uint8_t set_up_group(uint8_t id, uint8_t traffic_class, uint64_t residence) {
-    if (id > 15) return ID_RANGE;
-    if (groups[id].used) return SET_UP_BEFORE;
-    if (traffic_class > 7) return CLASS_RANGE;
-    if (residence > 10000000000u) return RESIDENCE_RANGE;
-    groups[id] = (struct group){.used = true, .traffic_class = traffic_class, .residence = residence};
+    if (id > 15) return ALDURRETX_ID_RANGE;
+    if (groups[id].used) return ALDURRETX_SET_UP_BEFORE;
+    if (traffic_class > 7) return ALDURRETX_CLASS_RANGE;
+    if (residence > 10000000000u) return ALDURRETX_RESIDENCE_RANGE;
+    groups[id] = (struct aldurretx_group){.used = true, .traffic_class = traffic_class, .residence = residence};
     return 0;
 }
 
 static uint8_t set_up_stream(uint8_t id, uint8_t group, uint64_t rate, uint64_t burst) {
-    if (id > 63) return ID_RANGE;
-    if (streams[id].used) return SET_UP_BEFORE;
-    if (group > 15 || !groups[group].used) return NO_GROUP;
-    if (!sound_group(&groups[group])) return UNSOUND;
-    if (rate < 1000 || rate > 10000000000u) return RATE_RANGE;
-    if (burst < 1 || burst > 16000000) return BURST_RANGE;
+    if (id > 63) return ALDURRETX_ID_RANGE;
+    if (streams[id].used) return ALDURRETX_SET_UP_BEFORE;
+    if (group > 15 || !groups[group].used) return ALDURRETX_NO_GROUP;
+    if (!sound_group(&groups[group])) return ALDURRETX_UNSOUND;
+    if (rate < 1000 || rate > 10000000000u) return ALDURRETX_RATE_RANGE;
+    if (burst < 1 || burst > 16000000) return ALDURRETX_BURST_RANGE;
     struct span s = lasting(burst, rate);
     int64_t ticks = -(int64_t)s.ticks - (s.part > 0);
-    streams[id] = (struct stream){true, group, rate, burst, ticks, s.part ? rate - s.part : 0};
+    streams[id] = (struct aldurretx_stream){true, group, rate, burst, ticks, s.part ? rate - s.part : 0};
     return 0;
 }
 
