@@ -1,7 +1,7 @@
 // Replays a table file against a line: reads the file from standard input, sets up its groups and streams, runs its
 // frames against a line of the rate that the first argument gives, free from the moment that the second gives (0 where
-// there is none), and prints each frame's answer, each pick and how the run stopped. Thin: the work is in `yard`
-// and `line`.
+// there is none), and prints each frame's answer, each pick and how the run stopped. Thin: the work is in `yard`,
+// `line` and `account`.
 use bridge::Bridge;
 use libc::STDERR_FILENO;
 use libc::STDIN_FILENO;
@@ -258,7 +258,7 @@ fn print_answers(out: &mut [u8], at: usize, answers: &[u8], frames: usize) -> us
     let mut k = 0;
     while k < many {
         end = next_line(out, end);
-        end = yard::put_frame_line(out, end, k as u64, answers[k]);
+        end = account::put_frame_line(out, end, k as u64, answers[k]);
         k += 1;
     }
     end
@@ -274,7 +274,7 @@ fn print_picks(out: &mut [u8], at: usize, picked: &[u32], moments: &[u64], picks
     let mut k = 0;
     while k < many {
         end = next_line(out, end);
-        end = yard::put_pick_line(out, end, picked[k], moments[k]);
+        end = account::put_pick_line(out, end, picked[k], moments[k]);
         k += 1;
     }
     end
@@ -295,7 +295,7 @@ fn print_run(
     let after_answers = print_answers(&mut out, 0, answers, next);
     let after_picks = print_picks(&mut out, after_answers, picked, moments, picks);
     let at = next_line(&out, after_picks);
-    let end = yard::put_stop_line(
+    let end = account::put_stop_line(
         &mut out,
         at,
         number,
@@ -309,7 +309,7 @@ fn print_run(
 
 fn print_refused(number: u8) {
     let mut out = io::buffer();
-    let end = yard::put_refused_line(&mut out, 0, number);
+    let end = account::put_refused_line(&mut out, 0, number);
     flush(&out, end);
 }
 

@@ -1,4 +1,2 @@
 pub mod Gathering
-pub mod Lines
-pub mod Puts
 pub mod Promises

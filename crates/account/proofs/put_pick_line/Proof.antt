@@ -1,11 +1,11 @@
--- `yard::put_pick_line` meets its contract: the line fits and is put part by part, or it does not fit. Assumes nothing.
+-- `account::put_pick_line` meets its contract: the line fits and is put part by part, or it does not fit. Assumes nothing.
 use borrow.Author.Needs.{needs}
 use native.Mathlib.Omega.{arith}
 use Rattle.text.proofs.Stores.{too-long}
-use Rattle.yard.specs.Lines.{pickLine}
-use Rattle.yard.proofs.Texts.{unfit, fit, pick-length, pick-put}
-use Rattle.yard.proofs.put_pick_line.Statement.{statement}
-use Rattle.yard.proofs.put_pick_line.Tie as tie
+use Rattle.account.specs.Lines.{pickLine}
+use Rattle.account.proofs.Texts.{unfit, fit, pick-length, pick-put}
+use Rattle.account.proofs.put_pick_line.Statement.{statement}
+use Rattle.account.proofs.put_pick_line.Tie as tie
 
 decimal-length-requires : tie.Need-decimal-length-requires
 decimal-length-requires c κs = search needs

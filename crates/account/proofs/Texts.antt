@@ -13,8 +13,8 @@ use Rattle.quantity.proofs.Booleans.{refuted, confirmed}
 use Rattle.text.specs.Decimal.{decimal}
 use Rattle.text.specs.Places.{Placed, placed}
 use Rattle.text.proofs.Stores.{fits}
-use Rattle.yard.specs.Lines.{joined, space, lineEnd, pickWord, refusedWord, stopWord, nextWord, freeWord, eventsWord, picksWord, frameLine, pickLine, refusedLine, stopLine}
-use Rattle.yard.specs.Puts.{puts}
+use Rattle.account.specs.Lines.{joined, space, lineEnd, pickWord, refusedWord, stopWord, nextWord, freeWord, eventsWord, picksWord, frameLine, pickLine, refusedLine, stopLine}
+use Rattle.account.specs.Puts.{puts}
 
 -- ---- one text after the other
 

@@ -1,8 +1,8 @@
--- `yard::put_field` meets its contract. Assumes nothing.
+-- `account::put_field` meets its contract. Assumes nothing.
 use borrow.Author.Needs.{needs}
-use Rattle.yard.proofs.Texts.{field-put}
-use Rattle.yard.proofs.put_field.Statement.{statement}
-use Rattle.yard.proofs.put_field.Tie as tie
+use Rattle.account.proofs.Texts.{field-put}
+use Rattle.account.proofs.put_field.Statement.{statement}
+use Rattle.account.proofs.put_field.Tie as tie
 
 put-text-requires : tie.Need-put-text-requires
 put-text-requires c κs = search needs

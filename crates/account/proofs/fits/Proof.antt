@@ -1,10 +1,10 @@
--- `yard::fits` meets its contract. Assumes nothing.
+-- `account::fits` meets its contract. Assumes nothing.
 use borrow.Author.Needs.{needs}
 use mathlib.Core.Path.{sym}
 use native.Mathlib.Omega.{arith}
-use Rattle.yard.proofs.Texts.{beyond, what-is-left}
-use Rattle.yard.proofs.fits.Statement.{statement}
-use Rattle.yard.proofs.fits.Tie as tie
+use Rattle.account.proofs.Texts.{beyond, what-is-left}
+use Rattle.account.proofs.fits.Statement.{statement}
+use Rattle.account.proofs.fits.Tie as tie
 
 returns : tie.Need-returns
 returns c = let a = c .before .args in sym (beyond (a .len) (a .at) (a .many) (omega arith))
