@@ -203,6 +203,8 @@ module _ {M : Type 1} (𝓤 : URA M) (H : Heap 𝓤) (A : Atoms 𝓤) (W : Given
       qed W [] ∵ nothing ! $ nothing ! $ owned ! usize (Is usize) (uint-makes 𝓤 H A W w64) (length ys) _ (refl, room .0) $ fjoin ! $ move ! (1 ∷ 0 ∷ []) $ join ! $ frame ! $ done !
 
   module _ (C : Calls 𝓤 H) (Λ : Loops 𝓤 H) (fm : FmC 𝓤 H (W .laws) C) (known-ready : Triple 𝓤 (C #receive·is-ready) (IsReady 𝓤 H A at-mem run)) (known-judge : Triple 𝓤 (C #receive·judge-in) (JudgeIn 𝓤 H A at-mem run)) (known-unready : Triple 𝓤 (C #receive·unready) (Unready 𝓤 H A at-mem run)) where
+    -- The offset d of each field is written out: what would be found for it is a long sum of sizes, which would stand in every later context.
+    -- A slice's length begins at byte 8; in a Judged the stream at 16 and the group at 64; in a Group the time at 16, the last arrival at 24, the discard count at 32.
     walk : ent 𝓤 (onEntry 𝓤 H A f.signature (κ, (κ′, tt)) (q, (q′, tt)) x at) (WpFn 𝓤 H C Λ code.function (vint w8 i ∷ vptr b o ∷ s ∷ vint w8 k ∷ vint w16 n ∷ a-val m ∷ []) Post)
     walk =
         qed W ((‵ (flft κ q) ⊛ ‵ (flft κ′ q′) ⊛ ‵ ftrue) ∷ ‵ (owns (u8 ∷ MutRef (named 0) κ G.the-row ∷ MutSlice (named 1) κ′ S.the-row ∷ u8 ∷ u16 ∷ T.the-row ∷ []) x at) ∷ []) ∵
@@ -212,7 +214,7 @@ module _ {M : Type 1} (𝓤 : URA M) (H : Heap 𝓤) (A : Atoms 𝓤) (W : Given
         alloc1 ! (λ l₀. alloc1 ! (λ l₁. alloc1 ! (λ l₂. alloc1 ! (λ l₃. alloc1 ! (λ l₄. alloc1 ! (λ l₅. alloc1 ! (λ l₆. alloc1 ! (λ l₇. alloc1 ! (λ l₈. alloc1 ! (λ l₉. alloc1 ! (λ l₁₀. alloc1 ! (λ l₁₁. alloc1 ! (λ l₁₂. alloc1 ! (λ l₁₃. alloc1 ! (λ l₁₄. alloc1 ! (λ l₁₅. alloc1 ! (λ l₁₆. alloc1 ! (λ l₁₇. alloc0 ! $ params1 ! $
         pass1 ! (init ! 32 refl (tt, record { fits = i-fits })) $ pass1 ! (init ! 30 refl (tt, tt)) $ pass1 ! (init ! 28 refl (tt, (tt, (record { fits = room .0 }, tt)))) $ pass1 ! (init ! 26 refl (tt, record { fits = k-fits })) $ pass1 ! (init ! 24 refl (tt, record { fits = n-fits })) $ pass1 ! (init ! 22 refl (LL.lawful T.the-type T′.the-laws 𝓤 H A W .typed m _ m-is .0)) $ pass0 ! $
         -- [_17 at 0; … _i at 2 (17 - i) …; _0 at 34; the group's three at 36; the run's three at 39; …]
-        assigns ! (of-opd ! (load ! (from ! (fld ! refl (stop !))) (look-in ! 28 (sub ! 1 refl (whole !))))) (from ! (stop !)) (init ! 14 refl (tt, record { fits = room .0 })) $
+        assigns ! (of-opd ! (load ! (from ! (fld ! {d = 8} refl (stop !))) (look-in ! 28 (sub ! 1 {d = 8} refl (whole !))))) (from ! (stop !)) (init ! 14 refl (tt, record { fits = room .0 })) $
         assigns ! (un ! (load ! (from ! (stop !)) (look ! 26 refl)) (record { fits = byte-fits k-fits })) (from ! (stop !)) (init ! 12 refl (tt, record { fits = byte-fits k-fits })) $
         use0 W (raw (IsReady 𝓤 H A at-mem run .pre to-ready)) goes-ready $
         calls-at ! fm (IsReady 𝓤 H A at-mem run) known-ready to-ready (and-then ! (load ! (from ! (stop !)) (look ! 15 refl)) (and-then ! (load ! (from ! (stop !)) (look ! 13 refl)) (no-more !))) (λ v₁.
@@ -224,7 +226,7 @@ module _ {M : Type 1} (𝓤 : URA M) (H : Heap 𝓤) (A : Atoms 𝓤) (W : Given
         -- ready
         (λ t. assigns ! (un ! (load ! (from ! (stop !)) (look ! 26 refl)) (record { fits = byte-fits k-fits })) (from ! (stop !)) (init ! 20 refl (tt, record { fits = byte-fits k-fits })) $
         assigns ! (bin ! (load ! (from ! (stop !)) (look ! 20 refl)) (lit ! tt) (record { fits = place-fits k-fits })) (from ! (stop !)) (init ! 10 refl (tt, record { fits = place-fits k-fits })) $
-        assigns ! (bin ! (load ! (from ! (fld ! refl (stop !))) (look-in ! 28 (sub ! 0 refl (whole !)))) (load ! (from ! (stop !)) (look ! 10 refl)) tt) (from ! (stop !)) (init ! 8 refl (tt, tt)) $
+        assigns ! (bin ! (load ! (from ! (fld ! {d = 0} refl (stop !))) (look-in ! 28 (sub ! 0 {d = 0} refl (whole !)))) (load ! (from ! (stop !)) (look ! 10 refl)) tt) (from ! (stop !)) (init ! 8 refl (tt, tt)) $
         rewrite ! 8 (λ (p : ℕ). ‵ (fat fullShare tyPtr l₁₃ 0 (vptr b′ p))) (sym (place-is 48 o′ k)) refl $
         move ! (39 ∷ 40 ∷ 41 ∷ []) $ opens-slice ! tt S.the-row ys b′ o′ $ elem-out ! S.the-row (Is S.the-row) (shows 𝓤 H A S.the-row) (LL.vals S.the-type S′.the-laws) (LL.tells S.the-type S′.the-laws) fullShare ys k noStream b′ o′ (has-place (length ys) k (sym e₁ ∙ true-of z t)) (λ y-is.
         move ! (42 ∷ 43 ∷ 44 ∷ []) $ opens ! tt G.the-row {h = h} b o (λ vs. spelt ! G.the-row (Is G.the-row) (shows 𝓤 H A G.the-row) (LL.vals G.the-type G′.the-laws) (LL.tells G.the-type G′.the-laws) fullShare h vs b o $
@@ -239,12 +241,11 @@ module _ {M : Type 1} (𝓤 : URA M) (H : Heap 𝓤) (A : Atoms 𝓤) (W : Given
         peeks ! J.the-row (Is J.the-row) (shows 𝓤 H A J.the-row) r (v ∷ []) (λ is. land ! (from ! (stop !)) (init ! 30 refl (LL.lawful J.the-type J′.the-laws 𝓤 H A W .typed r _ is .0)) $ drop ! $
         rewrite ! 29 (λ (u : Val). ‵ (fat fullShare J′.mir l₈ 0 u)) (ap only (LL.tells J.the-type J′.the-laws r _ is)) refl $
         -- the context is as before the call, with _8 written
-        -- In a Judged the stream begins at byte 16 and the group at 64; in a Group the time at 16, the last arrival at 24, the discard count at 32. The offsets d are written out: what would be found for them is a long sum of sizes, and it stands in every later context.
         assigns ! (of-opd ! (load ! (from ! (fld ! {d = 64} refl (fld ! {d = 16} refl (stop !)))) (look-in ! 29 (sub ! 3 {d = 16} refl (sub ! 2 {d = 64} refl (whole !)))))) (from ! (hop ! (look ! 41 refl) (fld ! {d = 16} refl (stop !)))) (store-in ! 0 (sub ! 3 {d = 16} refl (whole !)) (LL.lawful T.the-type T′.the-laws 𝓤 H A W .typed (r .group .time) _ (stamps r v is .0) .0)) $
         assigns ! (of-opd ! (load ! (from ! (fld ! {d = 64} refl (fld ! {d = 24} refl (stop !)))) (look-in ! 29 (sub ! 4 {d = 24} refl (sub ! 2 {d = 64} refl (whole !)))))) (from ! (hop ! (look ! 41 refl) (fld ! {d = 24} refl (stop !)))) (store-in ! 0 (sub ! 4 {d = 24} refl (whole !)) (LL.lawful T.the-type T′.the-laws 𝓤 H A W .typed (r .group .last) _ (stamps r v is .1 .0) .0)) $
         assigns ! (of-opd ! (load ! (from ! (fld ! {d = 64} refl (fld ! {d = 32} refl (stop !)))) (look-in ! 29 (sub ! 5 {d = 32} refl (sub ! 2 {d = 64} refl (whole !)))))) (from ! (hop ! (look ! 41 refl) (fld ! {d = 32} refl (stop !)))) (store-in ! 0 (sub ! 5 {d = 32} refl (whole !)) (tt, record { fits = stamps r v is .1 .1 .0 .1 })) $
         assigns ! (bin ! (load ! (from ! (stop !)) (look ! 31 refl)) (lit ! tt) (record { fits = place-fits k-fits })) (from ! (stop !)) (store ! 21 refl (tt, record { fits = place-fits k-fits })) $
-        assigns ! (bin ! (load ! (from ! (fld ! refl (stop !))) (look-in ! 39 (sub ! 0 refl (whole !)))) (load ! (from ! (stop !)) (look ! 21 refl)) tt) (from ! (stop !)) (init ! 13 refl (tt, tt)) $
+        assigns ! (bin ! (load ! (from ! (fld ! {d = 0} refl (stop !))) (look-in ! 39 (sub ! 0 {d = 0} refl (whole !)))) (load ! (from ! (stop !)) (look ! 21 refl)) tt) (from ! (stop !)) (init ! 13 refl (tt, tt)) $
         rewrite ! 13 (λ (p : ℕ). ‵ (fat fullShare tyPtr l₁₆ 0 (vptr b′ p))) (sym (place-is 48 o′ k)) refl $
         assigns ! (of-opd ! (load ! (from ! (fld ! {d = 16} refl (stop !))) (look-in ! 29 (sub ! 1 {d = 16} refl (whole !))))) (from ! (hop ! (look ! 13 refl) (stop !))) (store-raw ! 5 refl (LL.lawful S.the-type S′.the-laws 𝓤 H A W .typed (r .stream) _ (stream-is r v is) .0)) $
         assigns ! (of-opd ! (load ! (from ! (fld ! {d = 0} refl (stop !))) (look-in ! 29 (sub ! 0 {d = 0} refl (whole !))))) (from ! (stop !)) (init ! 45 refl (EL.lawful N.the-type N′.the-laws 𝓤 H A W tt .typed (r .answer) _ (answer-is r v is) .0)) $
@@ -258,7 +259,7 @@ module _ {M : Type 1} (𝓤 : URA M) (H : Heap 𝓤) (A : Atoms 𝓤) (W : Given
         free-all ! (_ ∷ _ ∷ _ ∷ _ ∷ _ ∷ _ ∷ []) (holds _ ∷ holds _ ∷ holds _ ∷ holds _ ∷ holds _ ∷ holds _ ∷ holds _ ∷ holds _ ∷ holds _ ∷ holds _ ∷ holds _ ∷ holds _ ∷ holds _ ∷ holds _ ∷ holds _ ∷ holds _ ∷ holds _ ∷ []) _ refl $
         keep ! (3 ∷ 4 ∷ 5 ∷ 0 ∷ 1 ∷ 2 ∷ []) $ by ! (exits (restamped h (r .group)) (set ys k (r .stream)) (r .answer) (ap (λ (j : Judged). record { answer = j .answer; group = restamped h (j .group); streams = set ys k (j .stream) }) e ∙ ap (λ (w : Group). record { answer = judgedIn i y h n (m .0) .answer; group = w; streams = set ys k (judgedIn i y h n (m .0) .stream) }) (group-kept i y h n (m .0)) ∙ sym (is-stored i h ys k n (m .0) (sym e₁ ∙ true-of z t))) (length-set ys k (r .stream)) (answer-is r v is))))))))))
         -- not ready: nothing was opened
-        (λ t. assigns ! (of-opd ! (load ! (from ! (fld ! refl (stop !))) (look-in ! 28 (sub ! 1 refl (whole !))))) (from ! (stop !)) (init ! 0 refl (tt, record { fits = room .0 })) $
+        (λ t. assigns ! (of-opd ! (load ! (from ! (fld ! {d = 8} refl (stop !))) (look-in ! 28 (sub ! 1 {d = 8} refl (whole !))))) (from ! (stop !)) (init ! 0 refl (tt, record { fits = room .0 })) $
         use0 W (raw (Unready 𝓤 H A at-mem run .pre to-unready)) goes-unready $
         calls-at ! fm (Unready 𝓤 H A at-mem run) known-unready to-unready (and-then ! (load ! (from ! (stop !)) (look ! 1 refl)) (no-more !)) (λ v.
         use1 W (later (some (λ (r : Answer). (‵ ftrue ⊛ ‵ (N.the-row .own r (v ∷ []))) ⊛ raw (ensured 𝓤 H A unready.ended (unready.clauses 𝓤 H A at-mem run) tt (length ys, tt) tt r)))) (id⊢ 𝓤 _) $ await ! tt $ pick ! (λ r.

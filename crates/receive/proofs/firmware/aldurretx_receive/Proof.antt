@@ -204,6 +204,8 @@ module _ {M : Type 1} (𝓤 : URA M) (H : Heap 𝓤) (A : Atoms 𝓤) (W : Given
       qed W [] ∵ nothing ! $ nothing ! $ owned ! usize (Is usize) (uint-makes 𝓤 H A W w64) (length ys) _ (refl, room .0) $ fjoin ! $ move ! (1 ∷ 0 ∷ []) $ join ! $ frame ! $ done !
 
   module _ (C : Calls 𝓤 H) (Λ : Loops 𝓤 H) (fm : FmC 𝓤 H (W .laws) C) (known-ready : Triple 𝓤 (C #receive·is-ready) (IsReady 𝓤 H A at-mem run)) (known-tell : Triple 𝓤 (C #receive·firmware·tell-frame) (TellFrame 𝓤 H A at-mem run)) (known-unready : Triple 𝓤 (C #receive·firmware·unready-number) (UnreadyNumber 𝓤 H A at-mem run)) where
+    -- The offset d of each field is written out, as in the walk of `receive`.
+    -- A slice's length begins at byte 8; in a FrameTold the time at 8, the stream at 16 and the group at 56; in a GroupRecord the discard count at 4, the time at 16, the last arrival at 24; in a StreamRecord the bucket empty time's ticks at 24 and its part at 32.
     walk : ent 𝓤 (onEntry 𝓤 H A f.signature (κ, (κ′, (κ″, tt))) (q, (q′, (q″, tt))) x at) (WpFn 𝓤 H C Λ code.function (vint w64 i ∷ vptr b o ∷ s ∷ vint w64 k ∷ vint w64 n ∷ vint w64 m ∷ vptr b″ o″ ∷ []) Post)
     walk =
         qed W ((‵ (flft κ q) ⊛ ‵ (flft κ′ q′) ⊛ ‵ (flft κ″ q″) ⊛ ‵ ftrue) ∷ ‵ (owns (u64 ∷ MutRef (named 0) κ G.the-row ∷ MutSlice (named 1) κ′ S.the-row ∷ u64 ∷ u64 ∷ u64 ∷ MutRef (named 2) κ″ u64 ∷ []) x at) ∷ []) ∵
@@ -214,7 +216,7 @@ module _ {M : Type 1} (𝓤 : URA M) (H : Heap 𝓤) (A : Atoms 𝓤) (W : Given
         alloc1 ! (λ l₀. alloc1 ! (λ l₁. alloc1 ! (λ l₂. alloc1 ! (λ l₃. alloc1 ! (λ l₄. alloc1 ! (λ l₅. alloc1 ! (λ l₆. alloc1 ! (λ l₇. alloc1 ! (λ l₈. alloc1 ! (λ l₉. alloc1 ! (λ l₁₀. alloc1 ! (λ l₁₁. alloc1 ! (λ l₁₂. alloc1 ! (λ l₁₃. alloc1 ! (λ l₁₄. alloc1 ! (λ l₁₅. alloc1 ! (λ l₁₆. alloc1 ! (λ l₁₇. alloc1 ! (λ l₁₈. alloc1 ! (λ l₁₉. alloc0 ! $ params1 ! $
         pass1 ! (init ! 36 refl (tt, record { fits = i-fits })) $ pass1 ! (init ! 34 refl (tt, tt)) $ pass1 ! (init ! 32 refl (tt, (tt, (record { fits = room .0 }, tt)))) $ pass1 ! (init ! 30 refl (tt, record { fits = k-fits })) $ pass1 ! (init ! 28 refl (tt, record { fits = n-fits })) $ pass1 ! (init ! 26 refl (tt, record { fits = m-fits })) $ pass1 ! (init ! 24 refl (tt, tt)) $ pass0 ! $
         -- [_19 at 0; … _i at 2 (19 - i) …; _0 at 38; the group's three at 40; the run's three at 43; the time's three at 46; …]
-        assigns ! (of-opd ! (load ! (from ! (fld ! refl (stop !))) (look-in ! 32 (sub ! 1 refl (whole !))))) (from ! (stop !)) (init ! 16 refl (tt, record { fits = room .0 })) $
+        assigns ! (of-opd ! (load ! (from ! (fld ! {d = 8} refl (stop !))) (look-in ! 32 (sub ! 1 {d = 8} refl (whole !))))) (from ! (stop !)) (init ! 16 refl (tt, record { fits = room .0 })) $
         use0 W (raw (IsReady 𝓤 H A at-mem run .pre to-ready)) goes-ready $
         calls-at ! fm (IsReady 𝓤 H A at-mem run) known-ready to-ready (and-then ! (load ! (from ! (stop !)) (look ! 17 refl)) (and-then ! (load ! (from ! (stop !)) (look ! 31 refl)) (no-more !))) (λ v₁.
         use1 W (later (some (λ (z : Bool). (‵ ftrue ⊛ ‵ (bool .own z (v₁ ∷ []))) ⊛ raw (ensured 𝓤 H A is-ready.ended (is-ready.clauses 𝓤 H A at-mem run) tt (length ys, (k, tt)) tt z)))) (id⊢ 𝓤 _) $ await ! tt $ pick ! (λ z.
@@ -225,7 +227,7 @@ module _ {M : Type 1} (𝓤 : URA M) (H : Heap 𝓤) (A : Atoms 𝓤) (W : Given
         -- ready
         (λ c. assigns ! (of-opd ! (load ! (from ! (stop !)) (look ! 30 refl))) (from ! (stop !)) (init ! 22 refl (tt, record { fits = k-fits })) $
         assigns ! (bin ! (load ! (from ! (stop !)) (look ! 22 refl)) (lit ! tt) (record { fits = record-place-fits (has-low-place (length ys) k (sym e₁ ∙ true-of z c)) })) (from ! (stop !)) (init ! 14 refl (tt, record { fits = record-place-fits (has-low-place (length ys) k (sym e₁ ∙ true-of z c)) })) $
-        assigns ! (bin ! (load ! (from ! (fld ! refl (stop !))) (look-in ! 32 (sub ! 0 refl (whole !)))) (load ! (from ! (stop !)) (look ! 14 refl)) tt) (from ! (stop !)) (init ! 12 refl (tt, tt)) $
+        assigns ! (bin ! (load ! (from ! (fld ! {d = 0} refl (stop !))) (look-in ! 32 (sub ! 0 {d = 0} refl (whole !)))) (load ! (from ! (stop !)) (look ! 14 refl)) tt) (from ! (stop !)) (init ! 12 refl (tt, tt)) $
         rewrite ! 12 (λ (p : ℕ). ‵ (fat fullShare tyPtr l₁₃ 0 (vptr b′ p))) (sym (place-is 40 o′ k)) refl $
         move ! (43 ∷ 44 ∷ 45 ∷ []) $ opens-slice ! tt S.the-row ys b′ o′ $ elem-out ! S.the-row (Is S.the-row) (shows 𝓤 H A S.the-row) (LL.vals S.the-type S′.the-laws) (LL.tells S.the-type S′.the-laws) fullShare ys k noRecord b′ o′ (has-place (length ys) k (sym e₁ ∙ true-of z c)) (λ y-is. use1 W (‵ (fat fullShare S′.mir b′ (place (mem S.the-row .size) o′ k) (s-val y))) (W .laws .raw-at fullShare S′.mir b′ (place (mem S.the-row .size) o′ k) (s-val y)) $
         move ! (46 ∷ 47 ∷ 48 ∷ []) $ opens ! tt G.the-row {h = h} b o (λ vs. spelt ! G.the-row (Is G.the-row) (shows 𝓤 H A G.the-row) (LL.vals G.the-type G′.the-laws) (LL.tells G.the-type G′.the-laws) fullShare h vs b o $
@@ -243,16 +245,15 @@ module _ {M : Type 1} (𝓤 : URA M) (H : Heap 𝓤) (A : Atoms 𝓤) (W : Given
         peeks ! J.the-row (Is J.the-row) (shows 𝓤 H A J.the-row) r (v ∷ []) (λ is. land ! (from ! (stop !)) (init ! 37 refl (LL.lawful J.the-type J′.the-laws 𝓤 H A W .typed r _ is .0)) $ drop ! $
         rewrite ! 36 (λ (u : Val). ‵ (fat fullShare J′.mir l₉ 0 u)) (ap only (LL.tells J.the-type J′.the-laws r _ is)) refl $
         -- the context is as before the call, with _9 written
-        -- In a FrameTold the time begins at byte 8, the stream at 16 and the group at 56; in a GroupRecord the discard count at 4, the time at 16, the last arrival at 24; in a StreamRecord the bucket empty time at 24 and 32.
         assigns ! (of-opd ! (load ! (from ! (fld ! {d = 56} refl (fld ! {d = 4} refl (stop !)))) (look-in ! 36 (sub ! 2 {d = 4} refl (sub ! 3 {d = 56} refl (whole !)))))) (from ! (hop ! (look ! 50 refl) (fld ! {d = 4} refl (stop !)))) (store-in ! 5 (sub ! 2 {d = 4} refl (whole !)) (tt, record { fits = group-stamps r v is .0 .1 })) $
         assigns ! (of-opd ! (load ! (from ! (fld ! {d = 56} refl (fld ! {d = 16} refl (stop !)))) (look-in ! 36 (sub ! 4 {d = 16} refl (sub ! 3 {d = 56} refl (whole !)))))) (from ! (hop ! (look ! 50 refl) (fld ! {d = 16} refl (stop !)))) (store-in ! 5 (sub ! 4 {d = 16} refl (whole !)) (tt, record { fits = group-stamps r v is .1 .1 .0 .1 })) $
         assigns ! (of-opd ! (load ! (from ! (fld ! {d = 56} refl (fld ! {d = 24} refl (stop !)))) (look-in ! 36 (sub ! 5 {d = 24} refl (sub ! 3 {d = 56} refl (whole !)))))) (from ! (hop ! (look ! 50 refl) (fld ! {d = 24} refl (stop !)))) (store-in ! 5 (sub ! 5 {d = 24} refl (whole !)) (tt, record { fits = group-stamps r v is .1 .1 .1 .0 .1 })) $
         assigns ! (bin ! (load ! (from ! (stop !)) (look ! 38 refl)) (lit ! tt) (record { fits = record-place-fits (has-low-place (length ys) k (sym e₁ ∙ true-of z c)) })) (from ! (stop !)) (store ! 30 refl (tt, record { fits = record-place-fits (has-low-place (length ys) k (sym e₁ ∙ true-of z c)) })) $
-        assigns ! (bin ! (load ! (from ! (fld ! refl (stop !))) (look-in ! 48 (sub ! 0 refl (whole !)))) (load ! (from ! (stop !)) (look ! 30 refl)) tt) (from ! (stop !)) (init ! 20 refl (tt, tt)) $
+        assigns ! (bin ! (load ! (from ! (fld ! {d = 0} refl (stop !))) (look-in ! 48 (sub ! 0 {d = 0} refl (whole !)))) (load ! (from ! (stop !)) (look ! 30 refl)) tt) (from ! (stop !)) (init ! 20 refl (tt, tt)) $
         rewrite ! 20 (λ (p : ℕ). ‵ (fat fullShare tyPtr l₁₇ 0 (vptr b′ p))) (sym (place-is 40 o′ k)) refl $
         assigns ! (of-opd ! (load ! (from ! (fld ! {d = 16} refl (fld ! {d = 24} refl (stop !)))) (look-in ! 36 (sub ! 4 {d = 24} refl (sub ! 2 {d = 16} refl (whole !)))))) (from ! (hop ! (look ! 20 refl) (fld ! {d = 24} refl (stop !)))) (store-in ! 10 (sub ! 4 {d = 24} refl (whole !)) (sint-lawful 𝓤 H A W w64 .typed (r .stream .empty) _ (stream-stamps r v is .0) .0)) $
         assigns ! (bin ! (load ! (from ! (stop !)) (look ! 38 refl)) (lit ! tt) (record { fits = record-place-fits (has-low-place (length ys) k (sym e₁ ∙ true-of z c)) })) (from ! (stop !)) (store ! 30 refl (tt, record { fits = record-place-fits (has-low-place (length ys) k (sym e₁ ∙ true-of z c)) })) $
-        assigns ! (bin ! (load ! (from ! (fld ! refl (stop !))) (look-in ! 48 (sub ! 0 refl (whole !)))) (load ! (from ! (stop !)) (look ! 30 refl)) tt) (from ! (stop !)) (init ! 18 refl (tt, tt)) $
+        assigns ! (bin ! (load ! (from ! (fld ! {d = 0} refl (stop !))) (look-in ! 48 (sub ! 0 {d = 0} refl (whole !)))) (load ! (from ! (stop !)) (look ! 30 refl)) tt) (from ! (stop !)) (init ! 18 refl (tt, tt)) $
         rewrite ! 18 (λ (p : ℕ). ‵ (fat fullShare tyPtr l₁₈ 0 (vptr b′ p))) (sym (place-is 40 o′ k)) refl $
         assigns ! (of-opd ! (load ! (from ! (fld ! {d = 16} refl (fld ! {d = 32} refl (stop !)))) (look-in ! 36 (sub ! 5 {d = 32} refl (sub ! 2 {d = 16} refl (whole !)))))) (from ! (hop ! (look ! 18 refl) (fld ! {d = 32} refl (stop !)))) (store-in ! 10 (sub ! 5 {d = 32} refl (whole !)) (tt, record { fits = stream-stamps r v is .1 .0 .1 })) $
         assigns ! (of-opd ! (load ! (from ! (fld ! {d = 8} refl (stop !))) (look-in ! 36 (sub ! 1 {d = 8} refl (whole !))))) (from ! (hop ! (look ! 40 refl) (stop !))) (store-raw ! 0 refl (tt, record { fits = time-fits r v is })) $
@@ -269,7 +270,7 @@ module _ {M : Type 1} (𝓤 : URA M) (H : Heap 𝓤) (A : Atoms 𝓤) (W : Given
         free-all ! (_ ∷ _ ∷ _ ∷ _ ∷ _ ∷ _ ∷ _ ∷ _ ∷ _ ∷ []) (holds _ ∷ holds _ ∷ holds _ ∷ holds _ ∷ holds _ ∷ holds _ ∷ holds _ ∷ holds _ ∷ holds _ ∷ holds _ ∷ holds _ ∷ holds _ ∷ holds _ ∷ holds _ ∷ holds _ ∷ holds _ ∷ holds _ ∷ holds _ ∷ holds _ ∷ []) _ refl $
         keep ! (3 ∷ 4 ∷ 5 ∷ 0 ∷ 1 ∷ 2 ∷ 6 ∷ 7 ∷ 8 ∷ []) $ by ! (exits (restampedRecord h (r .group)) (set ys k (emptiedRecord y (r .stream))) (r .time) (r .number) (frame-stored i h ys k n m t noRecord (sym e₁ ∙ true-of z c) (has-place (length ys) k (sym e₁ ∙ true-of z c)) r e) (length-set ys k (emptiedRecord y (r .stream))) (number-fits r v is))))))))))))
         -- not ready: nothing was opened
-        (λ c. assigns ! (of-opd ! (load ! (from ! (fld ! refl (stop !))) (look-in ! 32 (sub ! 1 refl (whole !))))) (from ! (stop !)) (init ! 0 refl (tt, record { fits = room .0 })) $
+        (λ c. assigns ! (of-opd ! (load ! (from ! (fld ! {d = 8} refl (stop !))) (look-in ! 32 (sub ! 1 {d = 8} refl (whole !))))) (from ! (stop !)) (init ! 0 refl (tt, record { fits = room .0 })) $
         use0 W (raw (UnreadyNumber 𝓤 H A at-mem run .pre to-unready)) goes-unready $
         calls-at ! fm (UnreadyNumber 𝓤 H A at-mem run) known-unready to-unready (and-then ! (load ! (from ! (stop !)) (look ! 1 refl)) (no-more !)) (λ v.
         use1 W (later (some (λ (r : ℕ). (‵ ftrue ⊛ ‵ (u8 .own r (v ∷ []))) ⊛ raw (ensured 𝓤 H A unready-number.ended (unready-number.clauses 𝓤 H A at-mem run) tt (length ys, tt) tt r)))) (id⊢ 𝓤 _) $ await ! tt $ pick ! (λ r.

@@ -111,6 +111,7 @@ module _ {M : Type 1} (𝓤 : URA M) (H : Heap 𝓤) (A : Atoms 𝓤) (W : Given
       move ! (1 ∷ 0 ∷ []) $ join ! $ frame ! $ done !
 
   module _ (C : Calls 𝓤 H) (Λ : Loops 𝓤 H) (fm : FmC 𝓤 H (W .laws) C) (known : Triple 𝓤 (C #receive·firmware·tell-group) (TellGroup 𝓤 H A at-mem run)) where
+    -- The offset d of each field is written out, as in the walk of `receive`: in a GroupTold the group begins at byte 8.
     walk : ent 𝓤 (onEntry 𝓤 H A f.signature (κ, tt) (q, tt) x at) (WpFn 𝓤 H C Λ code.function (vint w64 i ∷ vptr b o ∷ vint w64 k ∷ vint w64 m ∷ []) Post)
     walk =
         qed W ((‵ (flft κ q) ⊛ ‵ ftrue) ∷ ‵ (owns (u64 ∷ MutRef (named 0) κ G.the-row ∷ u64 ∷ u64 ∷ []) x at) ∷ []) ∵ split ! $ move ! (2 ∷ []) $ fsplit ! $ move ! (1 ∷ []) $ fsplit ! $ fsplit3 ! $ drop ! $ move ! (0 ∷ 1 ∷ 4 ∷ []) $
@@ -128,8 +129,8 @@ module _ {M : Type 1} (𝓤 : URA M) (H : Heap 𝓤) (A : Atoms 𝓤) (W : Given
         split ! $ move ! (1 ∷ []) $ use1 W (raw (fact 𝓤 (r ≡ groupTold (groupPlaced i (groupOf h) k m)))) (told-of 𝓤 H A at-mem run i h k m r) $ heard ! (r ≡ groupTold (groupPlaced i (groupOf h) k m)) (λ e. split ! $ drop ! $
         peeks ! J.the-row (Is J.the-row) (shows 𝓤 H A J.the-row) r (v ∷ []) (λ is. land ! (from ! (stop !)) (init ! 8 refl (LL.lawful J.the-type J′.the-laws 𝓤 H A W .typed r _ is .0)) $ drop ! $
         rewrite ! 7 (λ (u : Val). ‵ (fat fullShare J′.mir l₅ 0 u)) (ap only (LL.tells J.the-type J′.the-laws r _ is)) refl $
-        assigns ! (of-opd ! (load ! (from ! (fld ! refl (stop !))) (look-in ! 7 (sub ! 1 refl (whole !))))) (from ! (hop ! (look ! 13 refl) (stop !))) (store-raw ! 0 refl (LL.lawful G.the-type G′.the-laws 𝓤 H A W .typed (r .group) _ (group-is r v is) .0)) $
-        assigns ! (of-opd ! (load ! (from ! (fld ! refl (stop !))) (look-in ! 7 (sub ! 0 refl (whole !))))) (from ! (stop !)) (init ! 17 refl (tt, record { fits = number-fits r v is })) $
+        assigns ! (of-opd ! (load ! (from ! (fld ! {d = 8} refl (stop !))) (look-in ! 7 (sub ! 1 {d = 8} refl (whole !))))) (from ! (hop ! (look ! 13 refl) (stop !))) (store-raw ! 0 refl (LL.lawful G.the-type G′.the-laws 𝓤 H A W .typed (r .group) _ (group-is r v is) .0)) $
+        assigns ! (of-opd ! (load ! (from ! (fld ! {d = 0} refl (stop !))) (look-in ! 7 (sub ! 0 {d = 0} refl (whole !))))) (from ! (stop !)) (init ! 17 refl (tt, record { fits = number-fits r v is })) $
         move ! (1 ∷ []) $ drop ! $ owned ! G.the-row (Is G.the-row) (LL.makes G.the-type G′.the-plain 𝓤 H A) (r .group) _ (group-is r v is) $ move ! (1 ∷ 0 ∷ []) $ closes ! tt G.the-row (r .group) (g-val (r .group) ∷ []) b o $
         -- [obs; the borrow; the token; _6 at 3; …; _0 at 15; …]
         returns ! (look ! 15 refl) $

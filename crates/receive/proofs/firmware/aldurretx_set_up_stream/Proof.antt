@@ -120,6 +120,7 @@ module _ {M : Type 1} (𝓤 : URA M) (H : Heap 𝓤) (A : Atoms 𝓤) (W : Given
       owned ! S.the-row (Is S.the-row) (LL.makes S.the-type S′.the-plain 𝓤 H A) y _ y-is $ fjoin ! $ owned ! u64 (Is u64) (uint-makes 𝓤 H A W w64) i _ (refl, i-fits) $ fjoin ! $ move ! (1 ∷ 0 ∷ []) $ join ! $ frame ! $ done !
 
   module _ (C : Calls 𝓤 H) (Λ : Loops 𝓤 H) (fm : FmC 𝓤 H (W .laws) C) (known : Triple 𝓤 (C #receive·firmware·tell-stream) (TellStream 𝓤 H A at-mem run)) where
+    -- The offset d of each field is written out, as in the walk of `receive`: in a StreamTold the stream begins at byte 8.
     walk : ent 𝓤 (onEntry 𝓤 H A f.signature (κ, (κ′, tt)) (q, (q′, tt)) x at) (WpFn 𝓤 H C Λ code.function (vint w64 i ∷ vptr b o ∷ vint w64 k ∷ vptr b′ o′ ∷ vint w64 n ∷ vint w64 m ∷ []) Post)
     walk =
         qed W ((‵ (flft κ q) ⊛ ‵ (flft κ′ q′) ⊛ ‵ ftrue) ∷ ‵ (owns (u64 ∷ MutRef (named 0) κ S.the-row ∷ u64 ∷ ShrRef (named 1) κ′ G.the-row ∷ u64 ∷ u64 ∷ []) x at) ∷ []) ∵
@@ -144,8 +145,8 @@ module _ {M : Type 1} (𝓤 : URA M) (H : Heap 𝓤) (A : Atoms 𝓤) (W : Given
         split ! $ move ! (1 ∷ []) $ use1 W (raw (fact 𝓤 (r ≡ streamTold y (streamPlaced i (streamOf y) k (groupOf h) n m)))) (told-of 𝓤 H A at-mem run i y k h n m r) $ heard ! (r ≡ streamTold y (streamPlaced i (streamOf y) k (groupOf h) n m)) (λ e. split ! $ drop ! $
         peeks ! J.the-row (Is J.the-row) (shows 𝓤 H A J.the-row) r (v ∷ []) (λ is. land ! (from ! (stop !)) (init ! 14 refl (LL.lawful J.the-type J′.the-laws 𝓤 H A W .typed r _ is .0)) $ drop ! $
         rewrite ! 13 (λ (u : Val). ‵ (fat fullShare J′.mir l₇ 0 u)) (ap only (LL.tells J.the-type J′.the-laws r _ is)) refl $
-        assigns ! (of-opd ! (load ! (from ! (fld ! refl (stop !))) (look-in ! 13 (sub ! 1 refl (whole !))))) (from ! (hop ! (look ! 23 refl) (stop !))) (store-raw ! 0 refl (LL.lawful S.the-type S′.the-laws 𝓤 H A W .typed (r .stream) _ (stream-is r v is) .0)) $
-        assigns ! (of-opd ! (load ! (from ! (fld ! refl (stop !))) (look-in ! 13 (sub ! 0 refl (whole !))))) (from ! (stop !)) (init ! 27 refl (tt, record { fits = number-fits r v is })) $
+        assigns ! (of-opd ! (load ! (from ! (fld ! {d = 8} refl (stop !))) (look-in ! 13 (sub ! 1 {d = 8} refl (whole !))))) (from ! (hop ! (look ! 23 refl) (stop !))) (store-raw ! 0 refl (LL.lawful S.the-type S′.the-laws 𝓤 H A W .typed (r .stream) _ (stream-is r v is) .0)) $
+        assigns ! (of-opd ! (load ! (from ! (fld ! {d = 0} refl (stop !))) (look-in ! 13 (sub ! 0 {d = 0} refl (whole !))))) (from ! (stop !)) (init ! 27 refl (tt, record { fits = number-fits r v is })) $
         -- the stream's borrow is closed, then the group's is shut
         move ! (1 ∷ []) $ drop ! $ owned ! S.the-row (Is S.the-row) (LL.makes S.the-type S′.the-plain 𝓤 H A) (r .stream) _ (stream-is r v is) $ move ! (1 ∷ 0 ∷ []) $ closes ! tt S.the-row (r .stream) (s-val (r .stream) ∷ []) b o $
         move ! (3 ∷ 4 ∷ 5 ∷ []) $ shuts ! tt G.the-row q₁ h (g-val h ∷ []) b′ o′ $
