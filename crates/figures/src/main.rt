@@ -6,7 +6,6 @@ use bridge::BridgeSetUp;
 use bridge::Framed;
 use bridge::SetUp;
 use line::Ran;
-use line::Stop;
 use quantity::Bits;
 use quantity::Rate;
 use quantity::Ticks;
@@ -89,13 +88,7 @@ fn picked_handle(after: AfterPick) -> u64 {
 
 fn stop_number(ran: Ran) -> u64 {
     let stop = ran.stop;
-    match stop {
-        Stop::Done => 0,
-        Stop::BudgetSpent => 3,
-        Stop::PicksFull => 4,
-        Stop::TooLate => 27,
-        Stop::Refused(why) => refusal_number(why) as u64,
-    }
+    event::stop_number(stop) as u64
 }
 
 // ---- the tables of document 01's figures: group 0 and stream 0

@@ -31,14 +31,14 @@ use Rattle.waiting.proofs.Choosing.{chosen}
 use Rattle.waiting.proofs.Cases.{Taking, pick-ways, taken}
 use Rattle.waiting.proofs.Kept.{first-inside, put-keeps, take-keeps, taken-fine, enter-untested}
 use Rattle.waiting.proofs.Promises.{entered-is-last, picked-is-first, nothing-is-nothing, smallest-is-smallest}
+use Rattle.event.specs.declared.Step.the-variants.{Pick}
+use Rattle.event.proofs.Steps.{Picks as PicksAt, step-picks, event-picks}
 use Rattle.line.specs.Run.{Input, State, step, handed, entered, settled, frameAt, groupOf, settledAt, arrived, sendingTicks, sent, pickedAt}
 use Rattle.line.specs.Events.{enteringBy, enteringOf}
 use Rattle.line.specs.Promises.{Sound}
 use Rattle.line.specs.Firsts.{Enterable}
 use Rattle.line.specs.declared.Handed.{Handed}
-use Rattle.line.specs.declared.Step.the-variants.{Pick}
 use Rattle.line.proofs.Noting.{put-not, put-did, fine-bits}
-use Rattle.line.proofs.Steps.{Picks as PicksAt, step-picks, event-picks}
 use Rattle.line.proofs.Settling.{may-enter}
 
 -- ---- an arrival

@@ -1,5 +1,6 @@
 pub mod Noting
-pub mod Steps
+pub mod Searches
+pub mod Sending
 pub mod Settling
 pub mod Turns
 pub mod Happening

@@ -19,14 +19,15 @@ use Rattle.waiting.specs.Places.{smallestOf, pickGives}
 use Rattle.waiting.specs.declared.Waiting.{Waiting}
 use Rattle.waiting.specs.declared.Picked.{Picked}
 use Rattle.waiting.specs.declared.Picked.the-variants.{Leaves, Nothing, Refused as NotPicked}
-use Rattle.line.specs.Run.{Input, State, Outcome, Event, arrival, pick, none, nextEvent, arrivalStep, pickStep, stepFor, step, settledAt, arrived, sendingTicks, sent, pickedAt, stopped, onward, runFor, begun, listsFit, lineFits, runGives}
+use Rattle.event.specs.Next.{Event, arrival, pick, none, nextEvent, arrivalStep, pickStep, stepFor}
+use Rattle.event.specs.declared.Stop.{Stop}
+use Rattle.event.specs.declared.Stop.the-variants.{BudgetSpent, TooLate, PicksFull, Refused}
+use Rattle.event.specs.declared.Step.{Step}
+use Rattle.event.specs.declared.Step.the-variants.{Ends, Arrival, Pick}
+use Rattle.line.specs.Run.{Input, State, Outcome, step, settledAt, arrived, sendingTicks, sent, pickedAt, stopped, onward, runFor, begun, listsFit, lineFits, runGives}
 use Rattle.line.specs.Events.{Takes, stops, arrives, picks}
 use Rattle.line.specs.Promises.{Sound, continued, joined, RunInPieces, ContinuedIsAccepted}
-use Rattle.line.specs.declared.Stop.{Stop}
-use Rattle.line.specs.declared.Stop.the-variants.{BudgetSpent, TooLate, PicksFull, Refused}
-use Rattle.line.specs.declared.Step.{Step}
-use Rattle.line.specs.declared.Step.the-variants.{Ends, Arrival, Pick}
-use Rattle.line.proofs.Steps.{sending-most}
+use Rattle.line.proofs.Sending.{sending-most}
 use Rattle.line.proofs.Turns.{Fits, fits-open, run-arrives, run-picks, arrival-means, gives-unfit, gives-off-line, gives-unsound, gives-run}
 use Rattle.line.proofs.Happening.{arrived-sound, picks-at, leaves}
 use Rattle.line.proofs.Promises.{runs, plainly}

@@ -22,15 +22,16 @@ use Rattle.bridge.specs.History.{reply, afterCall, after, replies}
 use Rattle.bridge.specs.declared.Bridge.{Bridge}
 use Rattle.waiting.specs.declared.Picked.{Picked}
 use Rattle.waiting.specs.declared.Picked.the-variants.{Leaves, Nothing, Refused as NotPicked}
-use Rattle.line.specs.Run.{Input, State, step, settledAt, frameAt, arrived, sent, pickedAt, stopped, runFor, runGives, listsFit, lineFits, stopNumber, valuesWith, ranValues}
+use Rattle.event.specs.Next.{stopNumber}
+use Rattle.event.specs.declared.Stop.{Stop}
+use Rattle.event.specs.declared.Stop.the-variants.{Done, BudgetSpent, TooLate, PicksFull, Refused}
+use Rattle.event.specs.declared.Step.{Step}
+use Rattle.event.specs.declared.Step.the-variants.{Ends, Arrival, Pick}
+use Rattle.event.proofs.Steps.{plain-step}
+use Rattle.line.specs.Run.{Input, State, step, settledAt, frameAt, arrived, sent, pickedAt, stopped, runFor, runGives, listsFit, lineFits, valuesWith, ranValues}
 use Rattle.line.specs.Events.{Takes, stops, arrives, picks, frameCall, framesFrom, numbers, entering, entrances, Departure, leaving, departures, handlesOf, momentsOf, written, enteredInto, leftFrom, count, enteredHandles, zerosFrom}
 use Rattle.line.specs.Promises.{Sound, Ran, RunIsItsEvents, RefusedChangesNothing, ReleasedEnter, EventsAreCounted, HistoryOfFrames, Answers, none, one, NumbersOfFrames, ListsAreWritten, OtherPlacesStay, InTime, NoneBeforeItsTime, Apart, idle, sends, NoneOverlap, NothingLostOrDoubled}
 use Rattle.line.specs.declared.Handed.{Handed}
-use Rattle.line.specs.declared.Stop.{Stop}
-use Rattle.line.specs.declared.Stop.the-variants.{Done, BudgetSpent, TooLate, PicksFull, Refused}
-use Rattle.line.specs.declared.Step.{Step}
-use Rattle.line.specs.declared.Step.the-variants.{Ends, Arrival, Pick}
-use Rattle.line.proofs.Steps.{plain-step}
 use Rattle.line.proofs.Turns.{run-ends, run-arrives, run-picks, arrival-means, gives-unfit, gives-off-line, gives-unsound, gives-run}
 use Rattle.line.proofs.Happening.{arrival-ways, arrived-sound, Leave, picks-at, free-by, leaves, picked-sound}
 

@@ -31,15 +31,16 @@ use Rattle.bridge.specs.Calls.{judgedAt, frameCalled}
 use Rattle.bridge.specs.declared.Bridge.{Bridge}
 use Rattle.bridge.specs.declared.Framed.{Framed}
 use Rattle.bridge.proofs.Places.{frame-call}
-use Rattle.line.specs.Run.{Input, State, nextEvent, stepFor, step, handed, Settled, settled, frameAt, groupOf, settledAt, arrived, sendingTicks, sent, pickedAt, stopped, onward, runFor, listsFit, lineFits, runGives}
+use Rattle.event.specs.Next.{nextEvent, stepFor}
+use Rattle.event.specs.declared.Stop.{Stop}
+use Rattle.event.specs.declared.Stop.the-variants.{Refused}
+use Rattle.event.specs.declared.Step.{Step}
+use Rattle.event.specs.declared.Step.the-variants.{Ends, Arrival, Pick}
+use Rattle.event.proofs.Steps.{Picks, step-arrives, step-picks, event-arrives, event-picks}
+use Rattle.line.specs.Run.{Input, State, step, handed, Settled, settled, frameAt, groupOf, settledAt, arrived, sendingTicks, sent, pickedAt, stopped, onward, runFor, listsFit, lineFits, runGives}
 use Rattle.line.specs.Firsts.{soonBelow, smallestIn, Keeps, Enterable, TakenDue}
 use Rattle.line.specs.declared.Ran.{Ran}
-use Rattle.line.specs.declared.Stop.{Stop}
-use Rattle.line.specs.declared.Stop.the-variants.{Refused}
-use Rattle.line.specs.declared.Step.{Step}
-use Rattle.line.specs.declared.Step.the-variants.{Ends, Arrival, Pick}
 use Rattle.line.proofs.Noting.{smallest-is, smallest-soon}
-use Rattle.line.proofs.Steps.{Picks, step-arrives, step-picks, event-arrives, event-picks}
 use Rattle.line.proofs.Settling.{settled-same, may-enter, own-group}
 
 -- ---- the definition, one step at a time

@@ -18,10 +18,10 @@ use Rattle.waiting.specs.declared.Entered.the-variants.{Done, Refused as NotEnt
 use Rattle.waiting.specs.declared.Picked.{Picked}
 use Rattle.waiting.specs.declared.Picked.the-variants.{Leaves, Nothing, Refused as NotPicked}
 use Rattle.bridge.specs.History.{Call, frame}
+use Rattle.event.specs.declared.Stop.{Stop}
+use Rattle.event.specs.declared.Step.the-variants.{Ends, Arrival, Pick}
 use Rattle.line.specs.Run.{Input, State, step, handed, frameAt, groupOf, settledAt, arrived, pickedAt}
 use Rattle.line.specs.declared.Handed.{Handed}
-use Rattle.line.specs.declared.Stop.{Stop}
-use Rattle.line.specs.declared.Step.the-variants.{Ends, Arrival, Pick}
 
 -- ---- event by event
 

@@ -13,10 +13,11 @@ use Rattle.waiting.specs.Queue.{queue, Shaped}
 use Rattle.waiting.specs.Soundness.{allSound}
 use Rattle.waiting.specs.declared.Entry.{Entry}
 use Rattle.bridge.specs.History.{Reply, replies, after}
-use Rattle.line.specs.Run.{Input, State, Outcome, sendingTicks, stopped, begun, runGives, stopNumber, ranValues}
+use Rattle.event.specs.Next.{stopNumber}
+use Rattle.event.specs.declared.Stop.{Stop}
+use Rattle.event.specs.declared.Stop.the-variants.{BudgetSpent, Refused}
+use Rattle.line.specs.Run.{Input, State, Outcome, sendingTicks, stopped, begun, runGives, ranValues}
 use Rattle.line.specs.Events.{Takes, framesFrom, numbers, entrances, Departure, departures, handlesOf, momentsOf, written, enteredInto, leftFrom, count, enteredHandles, zerosFrom}
-use Rattle.line.specs.declared.Stop.{Stop}
-use Rattle.line.specs.declared.Stop.the-variants.{BudgetSpent, Refused}
 
 -- the queues have the lengths that the code gives them, and are sound
 pub record Sound (s : State) : Type 0 where

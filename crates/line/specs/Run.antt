@@ -1,13 +1,12 @@
--- Document 01, 'A run against a line': the events of a run, where it stops, and what it gives.
+-- Document 01, 'A run against a line': the events of a run and what it gives; which is next and where it stops are in `event`.
 -- i is a run's input, s its state, m a moment, n a frame's octets, T its eligibility time, k its place in the list.
-use Prim.Native.Nat.{ℕ, zero, suc, _+_, _-_, _/_, max}
-use mathlib.Core.Bool.{Bool, cond, not, _&&_, _||_}
+use Prim.Native.Nat.{ℕ, zero, suc, _+_, _-_, _/_}
+use mathlib.Core.Bool.{Bool, cond, not, _&&_}
 use mathlib.Core.List.{List, [], _∷_}
-use lib.Dec.{ltb, leb, eqb}
+use lib.Dec.{leb, eqb}
 use lib.ListN.{length, getD, set}
 use Rattle.quantity.specs.Ranges.{inRange}
-use Rattle.quantity.specs.Numbers.{numberOf}
-use Rattle.quantity.specs.declared.Item.the-variants.{LineRate, LineFree, PickMoment, ListPlaces}
+use Rattle.quantity.specs.declared.Item.the-variants.{LineRate, LineFree, ListPlaces}
 use Rattle.quantity.specs.declared.Refusal.the-variants.{Unsound, ListsUnfit, LineUnfit}
 use Rattle.shaper.specs.ExactTime.{bitTime}
 use Rattle.shaper.specs.Frame.{ticks}
@@ -22,18 +21,17 @@ use Rattle.waiting.specs.declared.Waiting.{Waiting}
 use Rattle.waiting.specs.declared.AfterEnter.{AfterEnter}
 use Rattle.waiting.specs.declared.Picked.{Picked}
 use Rattle.waiting.specs.declared.Picked.the-variants.{Leaves, Nothing, Refused as NotPicked}
-use Rattle.waiting.specs.declared.Smallest.{Smallest}
-use Rattle.waiting.specs.declared.Smallest.the-variants.{Time, NothingWaits}
 use Rattle.bridge.specs.Tables.{groupAt, streamAt}
 use Rattle.bridge.specs.Calls.{frameCalled}
 use Rattle.bridge.specs.declared.Bridge.{Bridge}
 use Rattle.bridge.specs.declared.Framed.{Framed}
+use Rattle.event.specs.Next.{nextEvent, stepFor}
+use Rattle.event.specs.declared.Stop.{Stop}
+use Rattle.event.specs.declared.Stop.the-variants.{Done, BudgetSpent, TooLate, PicksFull, Refused}
+use Rattle.event.specs.declared.Step.{Step}
+use Rattle.event.specs.declared.Step.the-variants.{Ends, Arrival, Pick}
 use Rattle.line.specs.declared.Handed.{Handed}
 use Rattle.line.specs.declared.Ran.{Ran}
-use Rattle.line.specs.declared.Stop.{Stop}
-use Rattle.line.specs.declared.Stop.the-variants.{Done, BudgetSpent, TooLate, PicksFull, Refused}
-use Rattle.line.specs.declared.Step.{Step}
-use Rattle.line.specs.declared.Step.the-variants.{Ends, Arrival, Pick}
 
 -- ---- what a run is given, and how it stands
 
@@ -57,42 +55,6 @@ pub record State : Type 0 where
   pub moments : List ℕ
 
 -- ---- which event is next
-
--- an arrival, a pick at a moment; or none is left
-pub data Event : Type 0 where
-  arrival : Event
-  pick : ℕ → Event
-  none : Event
-
--- an arrival remains, at place k, and its time is not after m
-unfoldable pub arrivesBy : List ℕ → ℕ → ℕ → Bool
-arrivesBy l k m = ltb k (length l) && leb (getD l k 0) m
-
--- the next arrival, if one remains and its time is not after the candidate moment m; otherwise the pick at m
-unfoldable pub atCandidate : List ℕ → ℕ → ℕ → Event
-atCandidate l k m = cond (arrivesBy l k m) arrival (pick m)
-
--- nothing waits: the next arrival, if one remains; otherwise the candidate moment is the later of line-free and the smallest waiting time
-unfoldable pub nextEvent : List ℕ → ℕ → ℕ → Smallest → Event
-nextEvent l k free NothingWaits = cond (ltb k (length l)) arrival none
-nextEvent l k free (Time t) = atCandidate l k (max free (t .0))
-
--- ---- where a run stops, with so many events left of its budget: done, budget spent, pick too late, either pick list full
-
-unfoldable pub arrivalStep : ℕ → Step
-arrivalStep left = cond (ltb left 1) (Ends BudgetSpent) Arrival
-
-unfoldable pub pickStep : ℕ → ℕ → ℕ → ℕ → ℕ → Step
-pickStep left picks handles moments m =
-    cond (ltb left 1) (Ends BudgetSpent)
-    (cond (not (inRange PickMoment m)) (Ends TooLate)
-    (cond (leb handles picks || leb moments picks) (Ends PicksFull)
-    (Pick (ticks m))))
-
-unfoldable pub stepFor : ℕ → ℕ → ℕ → ℕ → Event → Step
-stepFor left picks handles moments none = Ends Done
-stepFor left picks handles moments arrival = arrivalStep left
-stepFor left picks handles moments (pick m) = pickStep left picks handles moments m
 
 -- what a run in the state s does next: one of the two events, or it ends
 unfoldable pub step : Input → ℕ → State → Step
@@ -232,14 +194,7 @@ runGives i budget s =
     (cond (not (allSound (s .waiting .times) (s .waiting .bits) (s .waiting .fills))) (stopped (Refused Unsound) s)
     (runFor i budget s)))
 
--- ---- the number of a stop, and the values that come with it
-
-unfoldable pub stopNumber : Stop → ℕ
-stopNumber Done = 0
-stopNumber BudgetSpent = 3
-stopNumber TooLate = 27
-stopNumber PicksFull = 4
-stopNumber (Refused why) = numberOf why
+-- ---- the values that come with a stop
 
 -- none where the run is refused; else the next arrival's place, line-free, and the counts of events and of picks
 unfoldable pub valuesWith : Stop → List ℕ → List ℕ

@@ -1,7 +1,9 @@
 // The run of a list of arrivals against one line, event by event: an arrival is judged and enters its class, or the
-// entry that goes first leaves for the line. Judging is `bridge`'s; entering and picking are `waiting`'s.
-// Tables and queues stand in the run's own arrays, and beside them the first of each class: no event copies a table.
+// entry that goes first leaves for the line. Which is next is `event`'s, judging `bridge`'s, entering and picking
+// `waiting`'s. Tables and queues stand in the run's own arrays, with the first of each class: no event copies a table.
 use bridge::Bridge;
+use event::Step;
+use event::Stop;
 use quantity::Bits;
 use quantity::Item;
 use quantity::Rate;
@@ -17,14 +19,14 @@ use waiting::Smallest;
 use waiting::Waiting;
 ghost use mathlib.Core.Path.{_≡_};
 ghost use mathlib.Core.Bool.{true};
-ghost use Prim.Native.Nat.{_<_, _≤_, max, min};
+ghost use Prim.Native.Nat.{_<_, _≤_, min};
 ghost use lib.ListN.{length, set};
 ghost use Rattle.quantity.specs.Ranges.{inRange, mostOf};
 ghost use Rattle.shaper.specs.ExactTime.{bitTime};
 ghost use Rattle.waiting.specs.Queue.{classes, lists};
 ghost use Rattle.waiting.specs.Soundness.{allSound};
 ghost use Rattle.waiting.specs.Places.{firstOf, putGives};
-ghost use Rattle.line.specs.Run.{sendingTicks, arrivesBy, nextEvent, stepFor, arrivalStep, pickStep, handed, settled, listsFit, lineFits, begun, runFor, runGives};
+ghost use Rattle.line.specs.Run.{sendingTicks, handed, settled, listsFit, lineFits, begun, runFor, runGives};
 ghost use Rattle.line.specs.Firsts.{timeOf, placeOf, soonBelow, smallestIn, classBelow, Noted, Keeps, entryOf, Enterable, TakenDue};
 
 // Classes are 0 up to this one.
@@ -34,26 +36,6 @@ const LAST_CLASS: usize = quantity::MOST_CLASS as usize;
 const NEVER: u64 = 18_446_744_073_709_551_615;
 
 const TICKS_PER_SECOND: u64 = 1_000_000_000;
-
-// Why a run stopped. A refused run did nothing.
-pub enum Stop {
-    // No arrival is left and nothing waits.
-    Done,
-    BudgetSpent,
-    // The event is a pick after the last moment for one.
-    TooLate,
-    // The event is a pick and one of the pick lists is full.
-    PicksFull,
-    Refused(Refusal),
-}
-
-// What a run does next. Public for definitions of other crates.
-pub enum Step {
-    Ends(Stop),
-    Arrival,
-    // A pick at a moment.
-    Pick(Ticks),
-}
 
 // What is handed to the queue. Public for definitions of other crates.
 pub struct Handed {
@@ -78,12 +60,6 @@ fn wide(x: u8) -> usize
     ensures { λ r. ⌜ (r ≡ x) × (r < 256) ⌝ }
 {
     x as usize
-}
-
-fn later(a: u64, b: u64) -> u64
-    ensures { λ r. ⌜ r ≡ max a b ⌝ }
-{
-    if a < b { b } else { a }
 }
 
 fn sooner(a: u64, b: u64) -> u64
@@ -304,76 +280,6 @@ fn sending_ticks(bits: Bits, rate: Rate) -> u64
     (bits.0 * TICKS_PER_SECOND + (rate.0 - 1)) / rate.0
 }
 
-// ---- which event is next
-
-// Whether an arrival is left, and its time is not after the moment.
-fn arrives(arrivals: &[u64], next: usize, moment: u64) -> bool
-    ensures { λ r. ⌜ r ≡ arrivesBy (now (arrivals .entry)) next moment ⌝ }
-{
-    if next < arrivals.len() {
-        arrivals[next] <= moment
-    } else {
-        false
-    }
-}
-
-fn arrival_step(left: u64) -> Step
-    ensures { λ r. ⌜ r ≡ arrivalStep left ⌝ }
-{
-    if left > 0 {
-        return Step::Arrival;
-    }
-    Step::Ends(Stop::BudgetSpent)
-}
-
-fn pick_step(moment: u64, left: u64, picks: usize, handles: usize, moments: usize) -> Step
-    ensures { λ r. ⌜ r ≡ pickStep left picks handles moments moment ⌝ }
-{
-    if left < 1 {
-        return Step::Ends(Stop::BudgetSpent);
-    }
-    if !quantity::in_range(Item::PickMoment, moment) {
-        return Step::Ends(Stop::TooLate);
-    }
-    if picks >= handles {
-        return Step::Ends(Stop::PicksFull);
-    }
-    if picks >= moments {
-        return Step::Ends(Stop::PicksFull);
-    }
-    Step::Pick(Ticks(moment))
-}
-
-// What a run does next, with so many events left of its budget.
-fn next_step(
-    arrivals: &[u64],
-    next: usize,
-    free: u64,
-    smallest: Smallest,
-    left: u64,
-    picks: usize,
-    handles: usize,
-    moments: usize,
-) -> Step
-    ensures { λ r. ⌜ r ≡ stepFor left picks handles moments (nextEvent (now (arrivals .entry)) next free smallest) ⌝ }
-{
-    match smallest {
-        Smallest::NothingWaits => {
-            if next < arrivals.len() {
-                return arrival_step(left);
-            }
-            Step::Ends(Stop::Done)
-        }
-        Smallest::Time(time) => {
-            let moment = later(free, time.0);
-            if arrives(arrivals, next, moment) {
-                return arrival_step(left);
-            }
-            pick_step(moment, left, picks, handles, moments)
-        }
-    }
-}
-
 // ---- the run
 
 // Whether a run's lists, of so many places, fit each other and the starting place.
@@ -455,7 +361,7 @@ fn run_events(
     let mut events: u64 = 0;
     let mut picks: usize = 0;
     loop {
-        let step = next_step(
+        let step = event::next_step(
             arrivals,
             next,
             free_at,

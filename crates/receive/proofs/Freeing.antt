@@ -9,7 +9,7 @@ use mir.Syntax.{Ty}
 use mir.Val.{Val}
 use base.Logic.{SProp, ent, sep, id⊢, via, comm∗, assoc∗, assoc′, monoL, monoR}
 use base.Fml.{fat, froom, fdies}
-use prog.Wp.{Heap, Env}
+use prog.Wp.{Heap}
 use ghost.Atoms.{Atoms}
 use types.Kit.{Given, Item, ‵, mean, ⋆, push, pop, Goal, aim, frees, Step, step}
 
@@ -18,6 +18,7 @@ abbrev pub cell : {M : Type 1} (𝓤 : URA M) → Ty × ℕ → Option Val → I
 cell 𝓤 e (some v) = ‵ (fat fullShare (e .0) (e .1) 0 v)
 cell 𝓤 e none = ‵ (froom (e .0) (e .1) 0)
 
+-- a local in front of Γ: its cell, and what frees it
 abbrev pub local : {M : Type 1} (𝓤 : URA M) → Ty × ℕ → Option Val → List (Item 𝓤) → List (Item 𝓤)
 local 𝓤 e v Γ = cell 𝓤 e v ∷ ‵ (fdies (e .0) (e .1)) ∷ Γ
 

@@ -3,10 +3,10 @@
 // there is none), and prints each frame's answer, each pick and how the run stopped. Thin: the work is in `yard`,
 // `line` and `account`.
 use bridge::Bridge;
+use event::Stop;
 use libc::STDERR_FILENO;
 use libc::STDIN_FILENO;
 use libc::STDOUT_FILENO;
-use line::Stop;
 use quantity::Rate;
 use quantity::Refusal;
 use quantity::Ticks;
@@ -342,7 +342,7 @@ fn run_lists(
         &mut moments,
     );
     let stop = ran.stop;
-    let number = yard::stop_number(stop);
+    let number = event::stop_number(stop);
     if let Stop::Refused(_) = stop {
         print_refused(number);
         return;

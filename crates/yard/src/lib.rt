@@ -3,7 +3,6 @@
 // programs.
 use bridge::Bridge;
 use bridge::SetUp;
-use line::Stop;
 use quantity::Bits;
 use quantity::Rate;
 use quantity::Refusal;
@@ -15,7 +14,6 @@ ghost use mathlib.Core.Bool.{Bool};
 ghost use Prim.Native.Nat.{_+_, _≤_};
 ghost use lib.ListN.{length};
 ghost use Rattle.tablefile.specs.Reader.{readAt};
-ghost use Rattle.line.specs.Run.{stopNumber};
 ghost use Rattle.yard.specs.Gathering.{hasRoom, taskOf, taskFor, gatherFrom, begun};
 
 // Why a gathering ended.
@@ -245,18 +243,5 @@ pub fn gather_part(
                 continue;
             }
         }
-    }
-}
-
-// Document 01's number of a stop.
-pub fn stop_number(stop: Stop) -> u8
-    ensures { λ r. ⌜ r ≡ stopNumber stop ⌝ }
-{
-    match stop {
-        Stop::Done => 0,
-        Stop::BudgetSpent => 3,
-        Stop::TooLate => 27,
-        Stop::PicksFull => 4,
-        Stop::Refused(why) => quantity::refusal_number(why),
     }
 }

@@ -5,7 +5,7 @@ use Prim.Native.Nat.{_≤_}
 use native.Mathlib.Omega.{arith}
 use Rattle.waiting.specs.Queue.{classes}
 use Rattle.line.specs.Firsts.{classBelow}
-use Rattle.line.proofs.Steps.{class-here, class-lower, class-none}
+use Rattle.line.proofs.Searches.{class-here, class-lower, class-none}
 use Rattle.line.proofs.due_class.Statement.{statement}
 use Rattle.line.proofs.due_class.Tie as tie
 

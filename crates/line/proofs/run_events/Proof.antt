@@ -8,8 +8,8 @@ use lib.ListN.{length}
 use Rattle.quantity.specs.declared.Item.the-variants.{PickMoment}
 use Rattle.quantity.proofs.Ranges.{at-most}
 use Rattle.waiting.specs.Queue.{lists}
+use Rattle.event.proofs.Steps.{Picks}
 use Rattle.line.specs.Run.{stopped, begun}
-use Rattle.line.proofs.Steps.{Picks}
 use Rattle.line.proofs.Settling.{stream-found, group-found}
 use Rattle.line.proofs.Turns.{Running, starts, fits-open, turn-ends, arrival-within, may-settle, turn-arrives, pick-within, pick-due, turn-picks}
 use Rattle.line.proofs.run_events.Statement.{statement}

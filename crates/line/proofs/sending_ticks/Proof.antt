@@ -5,7 +5,7 @@ use native.Mathlib.Omega.{arith}
 use Rattle.quantity.specs.declared.Item.the-variants.{LineRate}
 use Rattle.quantity.proofs.Ranges.{at-least, at-most}
 use Rattle.line.specs.Run.{sendingTicks}
-use Rattle.line.proofs.Steps.{sending-most}
+use Rattle.line.proofs.Sending.{sending-most}
 use Rattle.line.proofs.sending_ticks.Statement.{statement}
 use Rattle.line.proofs.sending_ticks.Tie as tie
 

@@ -5,7 +5,7 @@ use Prim.Native.Nat.{_-_, _≤_}
 use native.Mathlib.Omega.{arith}
 use Rattle.waiting.specs.Queue.{classes}
 use Rattle.line.specs.Firsts.{soonBelow}
-use Rattle.line.proofs.Steps.{soon-next, soon-none, soon-some}
+use Rattle.line.proofs.Searches.{soon-next, soon-none, soon-some}
 use Rattle.line.proofs.soonest.Statement.{statement}
 use Rattle.line.proofs.soonest.Tie as tie
 

@@ -1,8 +1,8 @@
--- `line::arrives` meets its contract. Assumes nothing.
+-- `event::arrives` meets its contract. Assumes nothing.
 use borrow.Author.Needs.{needs}
-use Rattle.line.proofs.Steps.{arrives-in, arrives-out}
-use Rattle.line.proofs.arrives.Statement.{statement}
-use Rattle.line.proofs.arrives.Tie as tie
+use Rattle.event.proofs.Steps.{arrives-in, arrives-out}
+use Rattle.event.proofs.arrives.Statement.{statement}
+use Rattle.event.proofs.arrives.Tie as tie
 
 mul-result : tie.Need-mul-result
 mul-result c = search needs

@@ -1,10 +1,10 @@
--- `line::arrival_step` meets its contract. Assumes nothing.
+-- `event::arrival_step` meets its contract. Assumes nothing.
 use Prim.Native.Nat.{_<_}
 use native.Mathlib.Omega.{arith}
 use borrow.Author.Tests.{lt-ltb, le-ltb}
-use Rattle.line.specs.Run.{arrivalStep}
-use Rattle.line.proofs.arrival_step.Statement.{statement}
-use Rattle.line.proofs.arrival_step.Tie as tie
+use Rattle.event.specs.Next.{arrivalStep}
+use Rattle.event.proofs.arrival_step.Statement.{statement}
+use Rattle.event.proofs.arrival_step.Tie as tie
 
 returns : tie.Need-returns
 unfolding arrivalStep

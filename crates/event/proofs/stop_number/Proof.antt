@@ -1,9 +1,9 @@
--- `yard::stop_number` meets its contract: each arm has the stop that led there. Assumes nothing.
+-- `event::stop_number` meets its contract: each arm has the stop that led there. Assumes nothing.
 use borrow.Author.Needs.{needs}
 use mathlib.Core.Path.{sym, ap, _∙_}
-use Rattle.line.specs.Run.{stopNumber}
-use Rattle.yard.proofs.stop_number.Statement.{statement}
-use Rattle.yard.proofs.stop_number.Tie as tie
+use Rattle.event.specs.Next.{stopNumber}
+use Rattle.event.proofs.stop_number.Statement.{statement}
+use Rattle.event.proofs.stop_number.Tie as tie
 
 enum-told : tie.Need-enum-told
 enum-told c = search needs

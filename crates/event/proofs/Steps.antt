@@ -1,48 +1,23 @@
--- Laws of the tests of a run, one for each return of the code: what is next, where it stops, what refuses it; and how long the line is busy. Assumes nothing.
+-- Laws of what a run does next: one for each return of the code, and what each step says. Assumes nothing.
 use mathlib.Core.Path.{_≡_, refl, sym, ap, _∙_}
 use mathlib.Core.Bool.{Bool, true, false, not, cond, _||_}
 use mathlib.Core.List.{List}
-use Prim.Native.Nat.{ℕ, suc, _+_, _-_, _/_, _≤_, _<_, max, min}
-use native.Mathlib.Numerals.{add-one}
-use native.Mathlib.Nat.{div-lt-iff-lt-mul}
+use Prim.Native.Nat.{ℕ, _≤_, _<_, max}
 use native.Mathlib.Omega.{arith}
 use lib.Dec.{ltb, leb}
 use lib.ListN.{length, getD}
-use borrow.Author.Tests.{leb-false, ltb-true, ltb-false, lt-leb, le-leb, lt-ltb, le-ltb, eq-eqb, ne-eqb}
-use Rattle.quantity.specs.Ranges.{inRange, mostOf}
-use Rattle.quantity.specs.declared.Item.the-variants.{LineRate, PickMoment, Charge}
+use borrow.Author.Tests.{leb-false, ltb-true, ltb-false, lt-leb, le-leb, lt-ltb, le-ltb}
+use Rattle.quantity.specs.Ranges.{inRange}
+use Rattle.quantity.specs.declared.Item.the-variants.{PickMoment}
 use Rattle.quantity.specs.declared.Refusal.{Refusal}
-use Rattle.quantity.proofs.Ranges.{at-least}
-use Rattle.shaper.specs.ExactTime.{bitTime}
-use Rattle.shaper.specs.Frame.{ticks}
+use Rattle.quantity.specs.declared.Ticks.{Ticks}
+use Rattle.waiting.specs.Queue.{ticks}
 use Rattle.waiting.specs.declared.Smallest.{Smallest}
 use Rattle.waiting.specs.declared.Smallest.the-variants.{Time, NothingWaits}
-use Rattle.quantity.specs.declared.Ticks.{Ticks}
-use Rattle.line.specs.Run.{arrivesBy, atCandidate, nextEvent, Event, arrival, pick, none, arrivalStep, pickStep, stepFor}
-use Rattle.line.specs.Firsts.{never, soonBelow, waitsAt, smallestIn, classBelow}
-use Rattle.line.specs.declared.Stop.the-variants.{Done, BudgetSpent, TooLate, PicksFull, Refused}
-use Rattle.line.specs.declared.Step.{Step}
-use Rattle.line.specs.declared.Step.the-variants.{Ends, Arrival, Pick}
-
--- ---- the searches through the firsts
-module _ (f : List ℕ) where
-  pub soon-next : (c s r : ℕ) → s ≡ soonBelow f c → r ≡ min s (getD f c 0) → r ≡ soonBelow f (c + 1)
-  unfolding soonBelow
-  soon-next c s r e q = rw add-one (q ∙ ap (λ (x : ℕ). min x (getD f c 0)) e)
-
-  -- j is the class just below n, as an index
-  module _ (m n c j : ℕ) (e : suc c ≡ n) (i : j ≡ c) where
-    pub class-here : getD f j 0 ≤ m → c ≡ classBelow f m n
-    unfolding classBelow
-    class-here h = let h′ : getD f c 0 ≤ m = rw i at h in rw (sym e) (simp (le-leb _ _ h′))
-
-    pub class-lower : m < getD f j 0 → classBelow f m c ≡ classBelow f m n
-    unfolding classBelow
-    class-lower h = let h′ : m < getD f c 0 = rw i at h in rw (sym e) (simp (lt-leb _ _ h′))
-
-  pub class-none : (m n : ℕ) → n ≡ 0 → 0 ≡ classBelow f m n
-  unfolding classBelow
-  class-none m n e = rw e refl
+use Rattle.event.specs.Next.{arrivesBy, atCandidate, nextEvent, Event, arrival, pick, none, arrivalStep, pickStep, stepFor}
+use Rattle.event.specs.declared.Stop.the-variants.{Done, BudgetSpent, TooLate, PicksFull, Refused}
+use Rattle.event.specs.declared.Step.{Step}
+use Rattle.event.specs.declared.Step.the-variants.{Ends, Arrival, Pick}
 
 -- ---- which event is next
 module _ (l : List ℕ) (k m : ℕ) where
@@ -102,24 +77,6 @@ module _ (left picks handles moments : ℕ) where
       pub picks-first : b ≡ false → r ≡ pickStep left picks handles moments m → r ≡ stepFor left picks handles moments (nextEvent l k free s)
       unfolding stepFor nextEvent atCandidate
       picks-first h q = rw (e, sym c, sym a ∙ h) q
-
--- ---- the line
-pub sending-most : (b r : ℕ) → inRange LineRate r ≡ true → b ≤ mostOf Charge → (bitTime b + (r - 1)) / r ≤ bitTime (mostOf Charge)
-sending-most b r h k =
-    let l = at-least LineRate r h in
-    let x : (bitTime b + (r - 1)) / r < bitTime (mostOf Charge) + 1 = div-lt-iff-lt-mul {k = r} (omega arith) .1 (omega arith) in
-    omega arith
-
--- ---- the smallest time, once all classes are looked at
-pub soon-none : (f : List ℕ) (c s : ℕ) → s ≡ soonBelow f c → c ≡ 8 → s ≡ never → NothingWaits ≡ smallestIn f
-unfolding smallestIn waitsAt
-soon-none f c s e q h = rw (eq-eqb (soonBelow f 8) never (ap (soonBelow f) (sym q) ∙ sym e ∙ h)) refl
-
-pub soon-some : (f : List ℕ) (c s : ℕ) → s ≡ soonBelow f c → c ≡ 8 → (s ≡ never → ⊥) → Time (ticks s) ≡ smallestIn f
-unfolding smallestIn waitsAt
-soon-some f c s e q h =
-    let z : s ≡ soonBelow f 8 = e ∙ ap (soonBelow f) q in
-    rw (ne-eqb (soonBelow f 8) never (λ x. h (z ∙ x))) (ap (λ (t : ℕ). Time (ticks t)) z)
 
 -- ---- what a step says
 no-arrival : (left picks handles moments m : ℕ) → pickStep left picks handles moments m ≡ Arrival → ⊥

@@ -1,9 +1,9 @@
--- `line::pick_step` meets its contract. Assumes nothing.
+-- `event::pick_step` meets its contract. Assumes nothing.
 use borrow.Author.Needs.{needs}
 use Rattle.quantity.proofs.Booleans.{refuted, confirmed}
-use Rattle.line.proofs.Steps.{pick-spent, pick-late, pick-full, pick-full-too, pick-now}
-use Rattle.line.proofs.pick_step.Statement.{statement}
-use Rattle.line.proofs.pick_step.Tie as tie
+use Rattle.event.proofs.Steps.{pick-spent, pick-late, pick-full, pick-full-too, pick-now}
+use Rattle.event.proofs.pick_step.Statement.{statement}
+use Rattle.event.proofs.pick_step.Tie as tie
 
 returns : tie.Need-returns
 returns c = pick-spent _ _ _ _ _ (c .if1 .taken)

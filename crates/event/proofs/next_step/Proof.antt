@@ -1,8 +1,8 @@
--- `line::next_step` meets its contract. Assumes nothing.
+-- `event::next_step` meets its contract. Assumes nothing.
 use borrow.Author.Needs.{needs}
-use Rattle.line.proofs.Steps.{nothing-arrives, nothing-left, arrives-first, picks-first}
-use Rattle.line.proofs.next_step.Statement.{statement}
-use Rattle.line.proofs.next_step.Tie as tie
+use Rattle.event.proofs.Steps.{nothing-arrives, nothing-left, arrives-first, picks-first}
+use Rattle.event.proofs.next_step.Statement.{statement}
+use Rattle.event.proofs.next_step.Tie as tie
 
 enum-told : tie.Need-enum-told
 enum-told c = search needs
