@@ -29,7 +29,7 @@ locals 𝓤 (e ∷ E) [] Γ = locals 𝓤 E [] (local 𝓤 e none Γ)
 locals 𝓤 (e ∷ E) (v ∷ vs) Γ = locals 𝓤 E vs (local 𝓤 e v Γ)
 
 module _ {M : Type 1} (𝓤 : URA M) (H : Heap 𝓤) (A : Atoms 𝓤) (W : Given 𝓤 H A) where
-  -- what can be taken out of Γ can be taken out behind another entry, and so behind locals
+  -- what can be taken out of Γ can be taken out behind another entry, so behind a list of them, and behind locals
   behind : (P : SProp 𝓤) (i : Item 𝓤) (Γ Γ′ : List (Item 𝓤)) → ent 𝓤 (⋆ 𝓤 H A Γ) (sep 𝓤 P (⋆ 𝓤 H A Γ′)) → ent 𝓤 (⋆ 𝓤 H A (i ∷ Γ)) (sep 𝓤 P (⋆ 𝓤 H A (i ∷ Γ′)))
   behind P i Γ Γ′ out =
       let I = mean 𝓤 H A i in
@@ -57,6 +57,7 @@ module _ {M : Type 1} (𝓤 : URA M) (H : Heap 𝓤) (A : Atoms 𝓤) (W : Given
   as-room e (some v) = W .laws .at-room (e .0) (e .1) 0 v
   as-room e none = id⊢ 𝓤 (H .room (e .0) (e .1) 0)
 
+  -- the first local that was allocated, which is the first to be freed
   one-out : (Γ : List (Item 𝓤)) (e : Ty × ℕ) (v : Option Val) → ent 𝓤 (⋆ 𝓤 H A (local 𝓤 e v Γ)) (sep 𝓤 (sep 𝓤 (H .room (e .0) (e .1) 0) (H .dies (e .0) (e .1))) (⋆ 𝓤 H A Γ))
   one-out Γ e v =
       let D = H .dies (e .0) (e .1) in
@@ -64,6 +65,7 @@ module _ {M : Type 1} (𝓤 : URA M) (H : Heap 𝓤) (A : Atoms 𝓤) (W : Given
       via 𝓤 (sep 𝓤 (mean 𝓤 H A (cell 𝓤 e v)) (sep 𝓤 D (⋆ 𝓤 H A Γ))) (monoR 𝓤 (mean 𝓤 H A (cell 𝓤 e v)) (pop 𝓤 H A (‵ (fdies (e .0) (e .1))) Γ))
       (via 𝓤 (sep 𝓤 R (sep 𝓤 D (⋆ 𝓤 H A Γ))) (monoL 𝓤 (sep 𝓤 D (⋆ 𝓤 H A Γ)) (as-room e v)) (assoc′ 𝓤 R D (⋆ 𝓤 H A Γ)))
 
+  -- all of them, behind Θ
   freed : (Θ Γ : List (Item 𝓤)) (g : Goal 𝓤 H) (E : List (Ty × ℕ)) (vs : List (Option Val)) → ent 𝓤 (⋆ 𝓤 H A (Θ ++ Γ)) (aim 𝓤 H g) → ent 𝓤 (⋆ 𝓤 H A (Θ ++ locals 𝓤 E vs Γ)) (aim 𝓤 H (frees E g))
   freed Θ Γ g [] vs s = s
   freed Θ Γ g (e ∷ E) [] s =
