@@ -186,20 +186,20 @@ fn overfull() -> Waiting {
 // ---- the table file
 
 fn unknown_mark() -> u64 {
-    tablefile::reading_number(tablefile::read(b"XY", 0)) as u64
+    reader::reading_number(reader::read(b"XY", 0)) as u64
 }
 
 fn one_byte() -> u64 {
-    tablefile::reading_number(tablefile::read(b"G", 0)) as u64
+    reader::reading_number(reader::read(b"G", 0)) as u64
 }
 
 fn no_byte() -> u64 {
-    tablefile::reading_number(tablefile::read(b"", 0)) as u64
+    reader::reading_number(reader::read(b"", 0)) as u64
 }
 
 fn short_part() -> u64 {
     let mut part = [0u8; 3];
-    tablefile::written_number(tablefile::write(
+    writer::written_number(writer::write(
         Record::GroupDefault { group: 0, class: 0 },
         &mut part,
     )) as u64

@@ -7,7 +7,7 @@ use Rattle.bridge.specs.Tables.{freshBridge}
 use Rattle.bridge.specs.History.{Call, group, stream, frame, afterCall}
 use Rattle.bridge.specs.declared.Bridge.{Bridge}
 use Rattle.bridge.proofs.Views.{KeptFrame, JudgedFrame, frame-view}
-use Rattle.tablefile.proofs.RoundTrip.{reads-back, writes-back, file-reads-back, file-writes-back}
+use Rattle.reader.proofs.RoundTrip.{reads-back, writes-back, file-reads-back, file-writes-back}
 use Rattle.promises.specs.Demand2.{ByProcessFrame, EachByProcessFrame, ProcessFrameThroughout, RoundTrips}
 
 by-process-frame : (b : Bridge) (i n A : ℕ) → ByProcessFrame b i n A

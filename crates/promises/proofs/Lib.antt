@@ -9,6 +9,7 @@ pub mod Histories
 pub mod SoundBridges
 pub mod Demand1
 pub mod Demand2
+pub mod RoundTrip
 pub mod Demand3
 pub mod Discards
 pub mod Independence

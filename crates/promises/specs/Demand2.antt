@@ -12,7 +12,7 @@ use Rattle.bridge.specs.Tables.{freshBridge, groupAt, streamAt}
 use Rattle.bridge.specs.Calls.{frameStored, frameCalled}
 use Rattle.bridge.specs.History.{Call, group, stream, frame, afterCall}
 use Rattle.bridge.specs.declared.Bridge.{Bridge}
-use Rattle.tablefile.specs.RoundTrip.{ReadsBack, WritesBack, FileReadsBack, FileWritesBack}
+use Rattle.reader.specs.RoundTrip.{ReadsBack, WritesBack, FileReadsBack, FileWritesBack}
 
 -- a frame is refused and all records stay, or its answer and its two records are ProcessFrame's
 unfoldable pub ByProcessFrame : Bridge → ℕ → ℕ → ℕ → Type 0

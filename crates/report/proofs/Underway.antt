@@ -7,12 +7,12 @@ use native.Mathlib.Omega.{arith}
 use lib.ListN.{length, drop, length-append, length-drop}
 use lib.Seq.{sets}
 use Rattle.tablefile.specs.Layout.{mark, kindOf, size}
-use Rattle.tablefile.specs.Reader.{readAt}
+use Rattle.reader.specs.Reader.{readAt}
 use Rattle.tablefile.specs.declared.Record.{Record}
-use Rattle.tablefile.specs.declared.Reading.{Reading}
-use Rattle.tablefile.specs.declared.Reading.the-variants.{Found}
+use Rattle.reader.specs.declared.Reading.{Reading}
+use Rattle.reader.specs.declared.Reading.the-variants.{Found}
 use Rattle.tablefile.proofs.Fields.{mark-width}
-use Rattle.tablefile.proofs.OneRecord.{Front, whole, front}
+use Rattle.reader.proofs.OneRecord.{Front, whole, front}
 use Rattle.bridge.specs.History.{Call, Reply, reply, afterCall}
 use Rattle.bridge.specs.declared.Bridge.{Bridge}
 use Rattle.report.specs.Lines.{callOf, lineOf, recordLine}

@@ -1,5 +1,5 @@
 -- Document 01, 'The table file': the example, as the definitions have it, and the listing of an empty file.
--- The bytes stand in tablefile's figures, a record to a line; here stand the characters of each line of the listing.
+-- The bytes stand in reader's figures, a record to a line; here stand the characters of each line of the listing.
 use Prim.Native.Nat.{ℕ}
 use mathlib.Core.Path.{_≡_, refl}
 use mathlib.Core.List.{List, [], _∷_, _++_}
@@ -17,11 +17,11 @@ use Rattle.shaper.specs.Numbers.{judged, answerNumber, answerValues, aboveBurst
 use Rattle.shaper.specs.SetUp.{groupSetUp, streamSetUp, freshStream, freshGroup}
 use Rattle.shaper.specs.Sound.{sound, soundGroup, soundRegulator}
 use Rattle.tablefile.specs.BigEndian.{number}
-use Rattle.tablefile.specs.File.{answers, contentsFrom, onwards}
+use Rattle.reader.specs.File.{answers, contentsFrom, onwards}
 use Rattle.tablefile.specs.Layout.{kinds, fieldNumbers, total, size}
-use Rattle.tablefile.specs.Reader.{readAt, readLeft, readMarked, markedAmong, isMark, readFields}
+use Rattle.reader.specs.Reader.{readAt, readLeft, readMarked, markedAmong, isMark, readFields}
 use Rattle.text.specs.Decimal.{digit, lastDigits, fewest, digitCount, decimal}
-use Rattle.tablefile.specs.Figures.{group-line, stream-line, frame-line}
+use Rattle.reader.specs.Figures.{group-line, stream-line, frame-line}
 
 -- 1 GR 0 -
 abbrev pub line-1 : List ℕ

@@ -6,7 +6,7 @@ use mathlib.Core.List.{List, [], _∷_, _++_}
 use lib.Dec.{ltb}
 use lib.ListN.{length}
 use Rattle.text.specs.Decimal.{decimal}
-use Rattle.tablefile.specs.File.{Contents, contents}
+use Rattle.reader.specs.File.{Contents, contents}
 use Rattle.tablefile.specs.declared.Record.{Record}
 use Rattle.bridge.specs.Tables.{freshBridge}
 use Rattle.bridge.specs.History.{afterCall}

@@ -15,8 +15,8 @@ use Rattle.bridge.specs.Numbers.{setUpNumber}
 use Rattle.bridge.specs.declared.SetUp.{SetUp}
 use Rattle.tablefile.specs.Layout.{mark, kindOf}
 use Rattle.tablefile.specs.declared.Record.{Record}
-use Rattle.tablefile.specs.declared.Reading.{Reading}
-use Rattle.tablefile.specs.declared.Reading.the-variants.{Found, NothingLeft, Refused}
+use Rattle.reader.specs.declared.Reading.{Reading}
+use Rattle.reader.specs.declared.Reading.the-variants.{Found, NothingLeft, Refused}
 use Rattle.report.specs.Lines.{callOf, dash}
 use Rattle.report.specs.Parts.{mayGoOn}
 use Rattle.report.specs.declared.Shown.{Shown}

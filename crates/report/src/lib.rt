@@ -1,5 +1,5 @@
 // What a record of the table file does to the tables, the line that it gets, and the listing of a part of a file.
-// Reading a record is `tablefile`'s, the calls are `bridge`'s, decimal numbers are `text`'s. Input and output live with
+// Reading a record is `reader`'s, the calls are `bridge`'s, decimal numbers are `text`'s. Input and output live with
 // the programs. The loop keeps the tables as its own arrays, so that no table is copied for a record.
 use bridge::Bridge;
 use bridge::SetUp;
@@ -7,8 +7,8 @@ use quantity::Bits;
 use quantity::Rate;
 use quantity::Refusal;
 use quantity::Ticks;
+use reader::Reading;
 use shaper::Answer;
-use tablefile::Reading;
 use tablefile::Record;
 ghost use mathlib.Core.Path.{_≡_};
 ghost use mathlib.Core.List.{[], _∷_, _++_};
@@ -262,7 +262,7 @@ pub fn list_part(bytes: &[u8], bridge: Bridge, count: u64, out: &mut [u8]) -> Li
     let mut place: usize = 0;
     let mut written: usize = 0;
     loop {
-        let reading = tablefile::read(bytes, place);
+        let reading = reader::read(bytes, place);
         let step = next_step(reading, lines, out.len() - written);
         match step {
             Step::Ends(why) => {

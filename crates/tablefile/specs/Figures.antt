@@ -1,40 +1,7 @@
--- Document 01, 'The table file': the table's column of bytes, and the example file, as the definitions have them.
--- The bytes of the example stand as in the document, a record to a line.
-use Prim.Native.Nat.{ℕ}
+-- Document 01, 'The table file': the table's column of bytes, as the definitions have it.
 use mathlib.Core.Path.{_≡_, refl}
-use mathlib.Core.List.{List, [], _∷_, _++_}
-use Rattle.tablefile.specs.declared.Record.the-variants.{Group, Stream, Frame}
-use Rattle.tablefile.specs.BigEndian.{number}
-use Rattle.tablefile.specs.Layout.{GR, GD, ST, FR, kinds, total, fieldNumbers, size}
-use Rattle.tablefile.specs.Reader.{isMark, markedAmong, readFields, readMarked, readLeft, readAt}
-use Rattle.tablefile.specs.Answers.{nothingLeft}
-use Rattle.tablefile.specs.File.{onwards, answers, contentsFrom, contents}
+use Rattle.tablefile.specs.Layout.{GR, GD, ST, FR, total, size}
 
 pub sizes : (size GR ≡ 12) × (size GD ≡ 4) × (size ST ≡ 16) × (size FR ≡ 13)
 unfolding size total
 sizes = (refl, refl, refl, refl)
-
-abbrev pub group-line : List ℕ
-group-line = 0x47 ∷ 0x52 ∷ 0x00 ∷ 0x06 ∷ 0x00 ∷ 0x00 ∷ 0x00 ∷ 0x00 ∷ 0x00 ∷ 0x03 ∷ 0x6B ∷ 0x00 ∷ []
-
-abbrev pub stream-line : List ℕ
-stream-line = 0x53 ∷ 0x54 ∷ 0x00 ∷ 0x00 ∷ 0x00 ∷ 0x00 ∷ 0x00 ∷ 0x00 ∷ 0x00 ∷ 0x89 ∷ 0x54 ∷ 0x40 ∷ 0x00 ∷ 0x00 ∷ 0x05 ∷ 0x40 ∷ []
-
-abbrev pub frame-line : List ℕ
-frame-line = 0x46 ∷ 0x52 ∷ 0x00 ∷ 0x00 ∷ 0x40 ∷ 0x00 ∷ 0x00 ∷ 0x00 ∷ 0x00 ∷ 0x00 ∷ 0x00 ∷ 0x00 ∷ 0x00 ∷ []
-
--- group 0 in class 6 with 224,000 ticks; stream 0 of group 0 with 9,000,000 and 1,344; three frames of 64 octets at 0
-pub example : contents (group-line ++ (stream-line ++ (frame-line ++ (frame-line ++ frame-line))))
-    ≡ record {
-      records =
-          Group 0 6 (record { 0 = 224_000 })
-          ∷ Stream 0 0 (record { 0 = 9_000_000 }) 1_344
-          ∷ Frame 0 64 (record { 0 = 0 })
-          ∷ Frame 0 64 (record { 0 = 0 })
-          ∷ Frame 0 64 (record { 0 = 0 })
-          ∷ [];
-      ended = nothingLeft;
-      place = 67;
-    }
-unfolding contentsFrom answers onwards readAt readLeft readMarked markedAmong kinds isMark readFields fieldNumbers number total size
-example = refl

@@ -1,9 +1,5 @@
 pub mod BigEndian
 pub mod Layout
-pub mod Reader
-pub mod Writer
 pub mod Answers
 pub mod Meaning
-pub mod File
-pub mod RoundTrip
 pub mod Figures

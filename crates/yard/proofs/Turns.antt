@@ -12,14 +12,14 @@ use Rattle.quantity.specs.declared.Ticks.{Ticks}
 use Rattle.quantity.specs.declared.Rate.{Rate}
 use Rattle.quantity.proofs.Booleans.{both}
 use Rattle.tablefile.specs.Layout.{mark, widths, recordOf, fieldNumbers, size}
-use Rattle.tablefile.specs.Reader.{readAt}
+use Rattle.reader.specs.Reader.{readAt}
 use Rattle.tablefile.specs.declared.Record.{Record}
 use Rattle.tablefile.specs.declared.Record.the-variants as rec
-use Rattle.tablefile.specs.declared.Reading.{Reading}
-use Rattle.tablefile.specs.declared.Reading.the-variants as reading
+use Rattle.reader.specs.declared.Reading.{Reading}
+use Rattle.reader.specs.declared.Reading.the-variants as reading
 use Rattle.tablefile.proofs.Fields.{mark-width}
-use Rattle.tablefile.proofs.Marks.{none-left}
-use Rattle.tablefile.proofs.OneRecord.{Front, empty, cut, strange, whole, front}
+use Rattle.reader.proofs.Marks.{none-left}
+use Rattle.reader.proofs.OneRecord.{Front, empty, cut, strange, whole, front}
 use Rattle.bridge.specs.Tables.{groupPlace, streamPlace}
 use Rattle.bridge.specs.Calls.{groupCalled, streamCalled}
 use Rattle.bridge.specs.declared.Bridge.{Bridge}

@@ -1,5 +1,5 @@
 // A table file read into a bridge and lists of arrivals, part by part.
-// Reading a record is `tablefile`'s, setting up is `bridge`'s, the run itself `line`'s. Input and output live with the
+// Reading a record is `reader`'s, setting up is `bridge`'s, the run itself `line`'s. Input and output live with the
 // programs.
 use bridge::Bridge;
 use bridge::SetUp;
@@ -7,13 +7,13 @@ use quantity::Bits;
 use quantity::Rate;
 use quantity::Refusal;
 use quantity::Ticks;
-use tablefile::Reading;
+use reader::Reading;
 use tablefile::Record;
 ghost use mathlib.Core.Path.{_≡_};
 ghost use mathlib.Core.Bool.{Bool};
 ghost use Prim.Native.Nat.{_+_, _≤_};
 ghost use lib.ListN.{length};
-ghost use Rattle.tablefile.specs.Reader.{readAt};
+ghost use Rattle.reader.specs.Reader.{readAt};
 ghost use Rattle.yard.specs.Gathering.{hasRoom, taskOf, taskFor, gatherFrom, begun};
 
 // Why a gathering ended.
@@ -132,7 +132,7 @@ fn task_of(given: Record, next: usize, room: bool) -> Task
 fn next_task(bytes: &[u8], at: usize, room: bool) -> Task
     ensures { λ r. ⌜ r ≡ taskFor room (readAt (now (bytes .entry)) at) ⌝ }
 {
-    match tablefile::read(bytes, at) {
+    match reader::read(bytes, at) {
         Reading::Found { record, next } => task_of(record, next, room),
         Reading::NothingLeft => Task::Ends(End::NothingLeft),
         Reading::Refused(why) => Task::Ends(End::Unreadable(why)),

@@ -1,0 +1,5 @@
+pub mod Marks
+pub mod FieldsRead
+pub mod OneRecord
+pub mod WholeFile
+pub mod RoundTrip

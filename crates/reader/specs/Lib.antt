@@ -1,0 +1,5 @@
+pub mod Reader
+pub mod Answers
+pub mod File
+pub mod RoundTrip
+pub mod Figures

@@ -1,0 +1,44 @@
+-- `writer::put_group` meets its contract: the mark and the fields are stored where the layout has them.
+-- Assumes nothing.
+use borrow.Author.Needs.{needs}
+use native.Mathlib.Omega.{arith}
+use Rattle.tablefile.specs.declared.Record.the-variants.{Group}
+use Rattle.tablefile.specs.Layout.{total, size}
+use Rattle.writer.proofs.FieldsStored.{all-stored}
+use Rattle.writer.proofs.put_group.Statement.{statement}
+use Rattle.writer.proofs.put_group.Tie as tie
+
+put-mark-requires : tie.Need-put-mark-requires
+unfolding total size
+put-mark-requires c κs = omega arith
+
+put8-requires : tie.Need-put8-requires
+unfolding total size
+put8-requires c κs = omega arith
+
+put8-requires-2 : tie.Need-put8-requires-2
+unfolding total size
+put8-requires-2 c κs = omega arith
+
+put64-requires : tie.Need-put64-requires
+unfolding total size
+put64-requires c κs = omega arith
+
+same-length : tie.Need-same-length
+same-length c = search needs
+
+returns : tie.Need-returns
+returns c =
+    let a = c .before .before .before .before .before .before .before .before .before .before .before .before .before .before .before .before .before .args in
+    rw (
+      c .before .before .put64 .ensures,
+      c .before .before .before .before .before .before .put82 .ensures,
+      c .before .before .before .before .before .before .before .before .before .before .put8 .ensures,
+      c .before .before .before .before .before .before .before .before .before .before .before .before .before .before .put-mark .ensures,
+    )
+    (all-stored (Group (a .group) (a .class) (a .residence)) (a .part .now))
+
+pub put-group-spec : {M : Type 1} → statement M
+put-group-spec =
+    tie.close
+    (tie.spec put-mark-requires put8-requires put8-requires-2 put64-requires same-length returns)
