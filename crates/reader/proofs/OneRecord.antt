@@ -21,7 +21,7 @@ use Rattle.tablefile.specs.Layout.{Kind, GR, GD, ST, FR, kinds, markWidth, mark
 use Rattle.reader.specs.Reader.{isMark, markedAmong, readFields, readMarked, readLeft, readAt}
 use Rattle.reader.specs.RoundTrip.{Whole}
 use Rattle.tablefile.proofs.Numbers.{length-bigEndian, number-bigEndian, bigEndian-number, number-below, bytes-take, bytes-drop}
-use Rattle.tablefile.proofs.Fields.{mark-width, fields-size, bytes-size}
+use Rattle.tablefile.proofs.Fields.{mark-is, mark-width, fields-size, bytes-size}
 
 -- ---- each kind
 
@@ -52,13 +52,6 @@ mark-read GR left p = refl
 mark-read GD left p = refl
 mark-read ST left p = refl
 mark-read FR left p = refl
-
--- two bytes that are the mark of a kind
-mark-is : (k : Kind) → getD (mark k) 0 0 ∷ getD (mark k) 1 0 ∷ [] ≡ mark k
-mark-is GR = refl
-mark-is GD = refl
-mark-is ST = refl
-mark-is FR = refl
 
 -- ---- from the record to its bytes and back
 

@@ -1,14 +1,21 @@
--- Laws of marks and fields one after the other: how many bytes they have. Assumes nothing.
+-- Laws of a mark and the fields after it: how many bytes they have. Assumes nothing.
 use mathlib.Core.Path.{_≡_, refl, _∙_}
 use mathlib.Core.List.{List, [], _∷_}
 use Prim.Native.Nat.{ℕ}
 use native.Mathlib.Omega.{arith}
-use lib.ListN.{length, length-append}
+use lib.ListN.{length, getD, length-append}
 use Rattle.tablefile.specs.declared.Record.{Record}
 use Rattle.tablefile.specs.declared.Record.the-variants.{Group, GroupDefault, Stream, Frame}
 use Rattle.tablefile.specs.BigEndian.{bigEndian}
 use Rattle.tablefile.specs.Layout.{Kind, GR, GD, ST, FR, markWidth, mark, widths, kindOf, numbersOf, total, fieldBytes, bytesOf, size}
 use Rattle.tablefile.proofs.Numbers.{length-bigEndian}
+
+-- two bytes that are the mark of a kind
+pub mark-is : (k : Kind) → getD (mark k) 0 0 ∷ getD (mark k) 1 0 ∷ [] ≡ mark k
+mark-is GR = refl
+mark-is GD = refl
+mark-is ST = refl
+mark-is FR = refl
 
 pub mark-width : (k : Kind) → length (mark k) ≡ markWidth
 mark-width GR = refl

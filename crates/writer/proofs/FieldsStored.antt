@@ -5,14 +5,14 @@ use Prim.Native.Nat.{ℕ, suc, _+_, _/_, _%_, _^_, _≤_, _<_}
 use native.Mathlib.Nat.{mod-eq-of-lt, div-one, zero-add}
 use native.Mathlib.Omega.{arith}
 use borrow.Author.Tests.{lt-ltb, le-ltb}
-use lib.ListN.{length, set}
+use lib.ListN.{length, getD, set}
 use lib.Seq.{sets, sets-eq}
 use Rattle.quantity.specs.declared.Refusal.the-variants.{NoRoom}
 use Rattle.tablefile.specs.declared.Record.{Record}
 use Rattle.tablefile.specs.BigEndian.{byteValues, bigEndian}
 use Rattle.tablefile.specs.Layout.{markWidth, mark, widths, kindOf, numbersOf, fieldBytes, bytesOf, size}
 use Rattle.tablefile.proofs.Numbers.{length-bigEndian, bigEndian-parts}
-use Rattle.tablefile.proofs.Fields.{mark-width, bytes-size}
+use Rattle.tablefile.proofs.Fields.{mark-is, mark-width, bytes-size}
 use Rattle.writer.specs.declared.Written.the-variants.{Bytes, Refused}
 use Rattle.writer.specs.Writer.{writeOf, writeTo}
 
@@ -57,9 +57,9 @@ module _ (r : Record) (l : List ℕ) where
   no-room h = rw (lt-ltb (length l) (length (bytesOf r)) (rw (bytes-size r) h))
 
   -- the mark and then the fields, stored from the front on, are the bytes of the record
-  pub all-stored : stores (sets l 0 (mark (kindOf r))) markWidth (widths (kindOf r)) (numbersOf r) ≡ sets l 0 (bytesOf r)
+  marked-stored : stores (sets l 0 (mark (kindOf r))) markWidth (widths (kindOf r)) (numbersOf r) ≡ sets l 0 (bytesOf r)
   unfolding bytesOf
-  all-stored =
+  marked-stored =
       let m = mark (kindOf r) in
       let f = fieldBytes (widths (kindOf r)) (numbersOf r) in
       fields-stored (widths (kindOf r)) (numbersOf r) (sets l 0 m) markWidth
@@ -72,3 +72,12 @@ module _ (r : Record) (l : List ℕ) where
   room h =
       let n = length (bytesOf r) in
       rw (le-ltb (length l) n (rw (bytes-size r) h), ← bytes-size r, sets-eq (bytesOf r) l 0 (rw (zero-add, bytes-size r) h), zero-add n)
+
+-- the same where the record is known as s, and its mark is two bytes of m
+pub all-stored : (r s : Record) (m l : List ℕ) → r ≡ s → m ≡ mark (kindOf r)
+    → stores (sets l 0 (getD m 0 0 ∷ getD m 1 0 ∷ [])) markWidth (widths (kindOf s)) (numbersOf s) ≡ sets l 0 (bytesOf r)
+all-stored r s m l e h =
+    let two : getD m 0 0 ∷ getD m 1 0 ∷ [] ≡ mark (kindOf r) =
+    ap (λ (x : List ℕ). getD x 0 0 ∷ getD x 1 0 ∷ []) h ∙ mark-is (kindOf r) in
+    ap (λ (x : List ℕ). stores (sets l 0 x) markWidth (widths (kindOf s)) (numbersOf s)) two
+    ∙ rw (← e) (marked-stored r l)

@@ -6,12 +6,10 @@ ghost use Prim.Native.Nat.{_+_, _≤_};
 ghost use lib.ListN.{length, getD};
 ghost use lib.Seq.{sets};
 ghost use Rattle.tablefile.specs.BigEndian.{bigEndian};
-ghost use Rattle.tablefile.specs.Layout.{GR, GD, ST, FR, markWidth, kindOf, bytesOf, size};
+ghost use Rattle.tablefile.specs.Layout.{markWidth, kindOf, bytesOf, size};
 ghost use Rattle.writer.specs.Writer.{writeTo};
 ghost use Rattle.writer.specs.Answers.{writtenNumber};
-use quantity::Rate;
 use quantity::Refusal;
-use quantity::Ticks;
 use tablefile::Record;
 
 // What the writer did.
@@ -75,70 +73,46 @@ fn put_mark(part: &mut [u8], mark: [u8; 2])
     part[1] = mark[1];
 }
 
-// A record of each kind at the front of a part that has room for it.
-fn put_group(part: &mut [u8], group: u8, class: u8, residence: Ticks)
-    requires { ⌜ size GR ≤ length (now part) ⌝ }
-    ensures { λ r. ⌜ now (part .exit) ≡ sets (now (part .entry)) 0 (bytesOf (Record.Group group class residence)) ⌝ }
-{
-    put_mark(part, tablefile::GROUP_MARK);
-    put8(part, 2, group);
-    put8(part, 3, class);
-    put64(part, 4, residence.0);
-}
-
-fn put_group_default(part: &mut [u8], group: u8, class: u8)
-    requires { ⌜ size GD ≤ length (now part) ⌝ }
-    ensures { λ r. ⌜ now (part .exit) ≡ sets (now (part .entry)) 0 (bytesOf (Record.GroupDefault group class)) ⌝ }
-{
-    put_mark(part, tablefile::GROUP_DEFAULT_MARK);
-    put8(part, 2, group);
-    put8(part, 3, class);
-}
-
-fn put_stream(part: &mut [u8], stream: u8, group: u8, rate: Rate, burst: u32)
-    requires { ⌜ size ST ≤ length (now part) ⌝ }
-    ensures { λ r. ⌜ now (part .exit) ≡ sets (now (part .entry)) 0 (bytesOf (Record.Stream stream group rate burst)) ⌝ }
-{
-    put_mark(part, tablefile::STREAM_MARK);
-    put8(part, 2, stream);
-    put8(part, 3, group);
-    put64(part, 4, rate.0);
-    put32(part, 12, burst);
-}
-
-fn put_frame(part: &mut [u8], stream: u8, octets: u16, arrival: Ticks)
-    requires { ⌜ size FR ≤ length (now part) ⌝ }
-    ensures { λ r. ⌜ now (part .exit) ≡ sets (now (part .entry)) 0 (bytesOf (Record.Frame stream octets arrival)) ⌝ }
-{
-    put_mark(part, tablefile::FRAME_MARK);
-    put8(part, 2, stream);
-    put16(part, 3, octets);
-    put64(part, 5, arrival.0);
-}
-
-// A record of any kind at the front of a part that has room for it.
+// A record at the front of a part that has room for it: its mark, then its fields.
 fn put_record(given: Record, part: &mut [u8])
     requires { ⌜ size (kindOf given) ≤ length (now part) ⌝ }
     ensures { λ r. ⌜ now (part .exit) ≡ sets (now (part .entry)) 0 (bytesOf given) ⌝ }
 {
+    put_mark(part, tablefile::letters(given));
     match given {
         Record::Group {
             group,
             class,
             residence,
-        } => put_group(part, group, class, residence),
-        Record::GroupDefault { group, class } => put_group_default(part, group, class),
+        } => {
+            put8(part, 2, group);
+            put8(part, 3, class);
+            put64(part, 4, residence.0);
+        }
+        Record::GroupDefault { group, class } => {
+            put8(part, 2, group);
+            put8(part, 3, class);
+        }
         Record::Stream {
             stream,
             group,
             rate,
             burst,
-        } => put_stream(part, stream, group, rate, burst),
+        } => {
+            put8(part, 2, stream);
+            put8(part, 3, group);
+            put64(part, 4, rate.0);
+            put32(part, 12, burst);
+        }
         Record::Frame {
             stream,
             octets,
             arrival,
-        } => put_frame(part, stream, octets, arrival),
+        } => {
+            put8(part, 2, stream);
+            put16(part, 3, octets);
+            put64(part, 5, arrival.0);
+        }
     }
 }
 
