@@ -11,9 +11,9 @@ use Rattle.quantity.specs.Ranges.{inRange}
 use Rattle.quantity.specs.declared.Item.the-variants.{PickMoment}
 use Rattle.quantity.specs.declared.Refusal.{Refusal}
 use Rattle.quantity.specs.declared.Ticks.{Ticks}
-use Rattle.waiting.specs.Queue.{ticks}
-use Rattle.waiting.specs.declared.Smallest.{Smallest}
-use Rattle.waiting.specs.declared.Smallest.the-variants.{Time, NothingWaits}
+use Rattle.places.specs.Queue.{ticks}
+use Rattle.firsts.specs.declared.Smallest.{Smallest}
+use Rattle.firsts.specs.declared.Smallest.the-variants.{Time, NothingWaits}
 use Rattle.event.specs.Next.{arrivesBy, atCandidate, nextEvent, Event, arrival, pick, none, arrivalStep, pickStep, stepFor}
 use Rattle.event.specs.declared.Stop.the-variants.{Done, BudgetSpent, TooLate, PicksFull, Refused}
 use Rattle.event.specs.declared.Step.{Step}

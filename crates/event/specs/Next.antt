@@ -8,9 +8,9 @@ use lib.ListN.{length, getD}
 use Rattle.quantity.specs.Ranges.{inRange}
 use Rattle.quantity.specs.Numbers.{numberOf}
 use Rattle.quantity.specs.declared.Item.the-variants.{PickMoment}
-use Rattle.waiting.specs.Queue.{ticks}
-use Rattle.waiting.specs.declared.Smallest.{Smallest}
-use Rattle.waiting.specs.declared.Smallest.the-variants.{Time, NothingWaits}
+use Rattle.places.specs.Queue.{ticks}
+use Rattle.firsts.specs.declared.Smallest.{Smallest}
+use Rattle.firsts.specs.declared.Smallest.the-variants.{Time, NothingWaits}
 use Rattle.event.specs.declared.Stop.{Stop}
 use Rattle.event.specs.declared.Stop.the-variants.{Done, BudgetSpent, TooLate, PicksFull, Refused}
 use Rattle.event.specs.declared.Step.{Step}

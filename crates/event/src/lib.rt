@@ -1,10 +1,10 @@
 // What a run against a line does next: the stop, the next arrival, or the pick and its moment; and a stop's number.
 // It is decided from a list of arrivals, the moment the line is free, the smallest waiting time and what is left of the
 // budget and of the pick lists. Nothing is judged, entered or picked here.
+use firsts::Smallest;
 use quantity::Item;
 use quantity::Refusal;
 use quantity::Ticks;
-use waiting::Smallest;
 ghost use mathlib.Core.Path.{_≡_};
 ghost use Prim.Native.Nat.{max};
 ghost use Rattle.event.specs.Next.{arrivesBy, nextEvent, stepFor, arrivalStep, pickStep, stopNumber};

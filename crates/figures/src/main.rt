@@ -5,7 +5,13 @@ use bridge::Bridge;
 use bridge::BridgeSetUp;
 use bridge::Framed;
 use bridge::SetUp;
+use classes::AfterEnter;
+use classes::Entered;
 use line::Ran;
+use places::AfterPick;
+use places::Entry;
+use places::Picked;
+use places::Waiting;
 use quantity::Bits;
 use quantity::Rate;
 use quantity::Ticks;
@@ -13,12 +19,6 @@ use quantity::refusal_number;
 use shaper::Answer;
 use shaper::answer_number;
 use tablefile::Record;
-use waiting::AfterEnter;
-use waiting::AfterPick;
-use waiting::Entered;
-use waiting::Entry;
-use waiting::Picked;
-use waiting::Waiting;
 
 const GIGABIT: u64 = 1_000_000_000;
 

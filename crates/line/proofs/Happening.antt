@@ -16,16 +16,19 @@ use Rattle.shaper.specs.Numbers.{answerNumber}
 use Rattle.shaper.specs.declared.Group.{Group}
 use Rattle.shaper.specs.declared.Answer.{Answer}
 use Rattle.shaper.specs.declared.Answer.the-variants.{Released, Discarded, Refused}
-use Rattle.waiting.specs.Queue.{places, entryAt, Shaped, Each, After, Enters, Picks, NothingEligible}
-use Rattle.waiting.specs.Soundness.{allSound}
-use Rattle.waiting.specs.Places.{withLast, putGives, enterGives, smallestOf, without, dueOf, pickGives}
-use Rattle.waiting.specs.declared.Waiting.{Waiting}
-use Rattle.waiting.specs.declared.Entry.{Entry}
-use Rattle.waiting.specs.declared.Entered.the-variants.{Done, Refused as NotEntered}
-use Rattle.waiting.specs.declared.AfterEnter.{AfterEnter}
-use Rattle.waiting.specs.declared.AfterPick.{AfterPick}
-use Rattle.waiting.specs.declared.Picked.the-variants.{Leaves}
-use Rattle.waiting.specs.declared.Smallest.the-variants.{Time}
+use Rattle.places.specs.Queue.{places, entryAt, Shaped}
+use Rattle.waiting.specs.Rules.{Each, After, Enters, Picks, NothingEligible}
+use Rattle.classes.specs.Soundness.{allSound}
+use Rattle.places.specs.Places.{withLast, putGives, without}
+use Rattle.classes.specs.Calls.{enterGives, dueOf, pickGives}
+use Rattle.firsts.specs.Firsts.{smallestOf}
+use Rattle.places.specs.declared.Waiting.{Waiting}
+use Rattle.places.specs.declared.Entry.{Entry}
+use Rattle.classes.specs.declared.Entered.the-variants.{Done, Refused as NotEntered}
+use Rattle.classes.specs.declared.AfterEnter.{AfterEnter}
+use Rattle.places.specs.declared.AfterPick.{AfterPick}
+use Rattle.places.specs.declared.Picked.the-variants.{Leaves}
+use Rattle.firsts.specs.declared.Smallest.the-variants.{Time}
 use Rattle.waiting.proofs.Lines.{each-split, each-head}
 use Rattle.waiting.proofs.Choosing.{chosen}
 use Rattle.waiting.proofs.Cases.{Taking, pick-ways, taken}

@@ -13,19 +13,21 @@ use Rattle.quantity.specs.declared.Item.the-variants.{Class, Charge, EntryTime}
 use Rattle.quantity.specs.declared.Ticks.{Ticks}
 use Rattle.quantity.proofs.Booleans.{both}
 use Rattle.quantity.proofs.Ranges.{at-most}
-use Rattle.waiting.specs.Queue.{classes, places as roomOfClass, countOf, ticks, entryAt}
-use Rattle.waiting.specs.Soundness.{entrySound}
-use Rattle.waiting.specs.Places.{withLast, hasRoom, AfterPut, putGives, smaller, smallestBelow, smallestOf, firstOf, without, takeGives, takeDue, dueOr, dueBelow, dueOf}
-use Rattle.waiting.specs.declared.Waiting.{Waiting}
-use Rattle.waiting.specs.declared.Entry.{Entry}
-use Rattle.waiting.specs.declared.First.{First}
-use Rattle.waiting.specs.declared.First.the-variants.{At, NoEntry}
-use Rattle.waiting.specs.declared.Smallest.{Smallest}
-use Rattle.waiting.specs.declared.Smallest.the-variants.{Time, NothingWaits}
-use Rattle.waiting.specs.declared.Due.the-variants.{From}
-use Rattle.waiting.specs.declared.Picked.{Picked}
-use Rattle.waiting.specs.declared.Picked.the-variants.{Leaves}
-use Rattle.waiting.specs.declared.AfterPick.{AfterPick}
+use Rattle.places.specs.Queue.{classes, places as roomOfClass, countOf, ticks, entryAt}
+use Rattle.classes.specs.Soundness.{entrySound}
+use Rattle.places.specs.Places.{withLast, hasRoom, AfterPut, putGives, without, takeGives}
+use Rattle.firsts.specs.Firsts.{smaller, smallestBelow, smallestOf, firstOf}
+use Rattle.classes.specs.Calls.{takeDue, dueOr, dueBelow, dueOf}
+use Rattle.places.specs.declared.Waiting.{Waiting}
+use Rattle.places.specs.declared.Entry.{Entry}
+use Rattle.firsts.specs.declared.First.{First}
+use Rattle.firsts.specs.declared.First.the-variants.{At, NoEntry}
+use Rattle.firsts.specs.declared.Smallest.{Smallest}
+use Rattle.firsts.specs.declared.Smallest.the-variants.{Time, NothingWaits}
+use Rattle.classes.specs.declared.Due.the-variants.{From}
+use Rattle.places.specs.declared.Picked.{Picked}
+use Rattle.places.specs.declared.Picked.the-variants.{Leaves}
+use Rattle.places.specs.declared.AfterPick.{AfterPick}
 use Rattle.waiting.proofs.Choosing.{Chosen, chosen}
 use Rattle.waiting.proofs.Kept.{orLast, first-inside, first-time, put-keeps, put-first, put-first-other, take-keeps, taken-fine, take-first-other}
 use Rattle.line.specs.Firsts.{never, timeOf, placeOf, soonBelow, waitsAt, smallestIn, classBelow, Noted, Keeps, Enterable, entryOf, TakenDue}

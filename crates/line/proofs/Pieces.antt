@@ -14,11 +14,12 @@ use Rattle.quantity.specs.declared.Refusal.the-variants.{Unsound, ListsUnfit, L
 use Rattle.quantity.specs.declared.Ticks.{Ticks}
 use Rattle.quantity.proofs.Ranges.{within, at-most}
 use Rattle.shaper.specs.Frame.{ticks}
-use Rattle.waiting.specs.Soundness.{allSound}
-use Rattle.waiting.specs.Places.{smallestOf, pickGives}
-use Rattle.waiting.specs.declared.Waiting.{Waiting}
-use Rattle.waiting.specs.declared.Picked.{Picked}
-use Rattle.waiting.specs.declared.Picked.the-variants.{Leaves, Nothing, Refused as NotPicked}
+use Rattle.classes.specs.Soundness.{allSound}
+use Rattle.firsts.specs.Firsts.{smallestOf}
+use Rattle.classes.specs.Calls.{pickGives}
+use Rattle.places.specs.declared.Waiting.{Waiting}
+use Rattle.places.specs.declared.Picked.{Picked}
+use Rattle.places.specs.declared.Picked.the-variants.{Leaves, Nothing, Refused as NotPicked}
 use Rattle.event.specs.Next.{Event, arrival, pick, none, nextEvent, arrivalStep, pickStep, stepFor}
 use Rattle.event.specs.declared.Stop.{Stop}
 use Rattle.event.specs.declared.Stop.the-variants.{BudgetSpent, TooLate, PicksFull, Refused}

@@ -12,16 +12,17 @@ use borrow.Author.Tests.{eqb-true, eqb-false, eq-eqb, ne-eqb}
 use Rattle.quantity.specs.declared.Refusal.{Refusal}
 use Rattle.quantity.specs.declared.Refusal.the-variants.{Unsound, ListsUnfit, LineUnfit}
 use Rattle.quantity.specs.declared.Ticks.{Ticks}
-use Rattle.waiting.specs.Queue.{queue, Enters, Picks}
-use Rattle.waiting.specs.Soundness.{allSound}
-use Rattle.waiting.specs.Places.{pickGives}
-use Rattle.waiting.specs.declared.Waiting.{Waiting}
-use Rattle.waiting.specs.declared.Entry.{Entry}
-use Rattle.waiting.specs.declared.AfterPick.{AfterPick}
+use Rattle.places.specs.Queue.{queue}
+use Rattle.waiting.specs.Rules.{Enters, Picks}
+use Rattle.classes.specs.Soundness.{allSound}
+use Rattle.classes.specs.Calls.{pickGives}
+use Rattle.places.specs.declared.Waiting.{Waiting}
+use Rattle.places.specs.declared.Entry.{Entry}
+use Rattle.places.specs.declared.AfterPick.{AfterPick}
 use Rattle.bridge.specs.History.{reply, afterCall, after, replies}
 use Rattle.bridge.specs.declared.Bridge.{Bridge}
-use Rattle.waiting.specs.declared.Picked.{Picked}
-use Rattle.waiting.specs.declared.Picked.the-variants.{Leaves, Nothing, Refused as NotPicked}
+use Rattle.places.specs.declared.Picked.{Picked}
+use Rattle.places.specs.declared.Picked.the-variants.{Leaves, Nothing, Refused as NotPicked}
 use Rattle.event.specs.Next.{stopNumber}
 use Rattle.event.specs.declared.Stop.{Stop}
 use Rattle.event.specs.declared.Stop.the-variants.{Done, BudgetSpent, TooLate, PicksFull, Refused}

@@ -23,10 +23,11 @@ use Rattle.shaper.specs.declared.Answer.{Answer}
 use Rattle.shaper.specs.declared.Answer.the-variants.{Released, Discarded, Refused}
 use Rattle.shaper.proofs.Soundness.{sound-ok}
 use Rattle.shaper.proofs.Charging.{charge-in-range}
-use Rattle.waiting.specs.Soundness.{entrySound, allSound}
-use Rattle.waiting.specs.Places.{AfterPut, putGives, enterGives}
-use Rattle.waiting.specs.declared.Waiting.{Waiting}
-use Rattle.waiting.specs.declared.Entered.the-variants.{Done, Refused as NotEntered}
+use Rattle.classes.specs.Soundness.{entrySound, allSound}
+use Rattle.places.specs.Places.{AfterPut, putGives}
+use Rattle.classes.specs.Calls.{enterGives}
+use Rattle.places.specs.declared.Waiting.{Waiting}
+use Rattle.classes.specs.declared.Entered.the-variants.{Done, Refused as NotEntered}
 use Rattle.waiting.proofs.Kept.{enter-untested}
 use Rattle.bridge.specs.Tables.{noGroup, noStream, groupAt, streamAt, groupPlace, streamPlace}
 use Rattle.bridge.specs.Calls.{frameStored, frameCalled}

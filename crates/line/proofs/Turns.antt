@@ -17,14 +17,15 @@ use Rattle.quantity.proofs.Ranges.{at-most}
 use Rattle.shaper.specs.Frame.{ticks}
 use Rattle.shaper.specs.declared.Answer.the-variants.{Released}
 use Rattle.shaper.specs.declared.Judged.{Judged}
-use Rattle.waiting.specs.Queue.{classes}
-use Rattle.waiting.specs.Soundness.{allSound}
-use Rattle.waiting.specs.Places.{smallestOf, pickGives}
-use Rattle.waiting.specs.declared.Waiting.{Waiting}
-use Rattle.waiting.specs.declared.Entry.{Entry}
-use Rattle.waiting.specs.declared.Smallest.{Smallest}
-use Rattle.waiting.specs.declared.Picked.the-variants.{Leaves}
-use Rattle.waiting.specs.declared.AfterPick.{AfterPick}
+use Rattle.places.specs.Queue.{classes}
+use Rattle.classes.specs.Soundness.{allSound}
+use Rattle.firsts.specs.Firsts.{smallestOf}
+use Rattle.classes.specs.Calls.{pickGives}
+use Rattle.places.specs.declared.Waiting.{Waiting}
+use Rattle.places.specs.declared.Entry.{Entry}
+use Rattle.firsts.specs.declared.Smallest.{Smallest}
+use Rattle.places.specs.declared.Picked.the-variants.{Leaves}
+use Rattle.places.specs.declared.AfterPick.{AfterPick}
 use Rattle.waiting.proofs.Kept.{pick-untested}
 use Rattle.bridge.specs.Tables.{noGroup, noStream, groupPlace, streamPlace}
 use Rattle.bridge.specs.Calls.{judgedAt, frameCalled}

@@ -10,13 +10,13 @@ use Rattle.quantity.specs.declared.Ticks.{Ticks}
 use Rattle.shaper.specs.declared.Group.{Group}
 use Rattle.shaper.specs.declared.Answer.{Answer}
 use Rattle.shaper.specs.declared.Answer.the-variants.{Released, Discarded, Refused as FrameRefused}
-use Rattle.waiting.specs.Places.{enterGives, pickGives}
-use Rattle.waiting.specs.declared.Waiting.{Waiting}
-use Rattle.waiting.specs.declared.Entry.{Entry}
-use Rattle.waiting.specs.declared.Entered.{Entered}
-use Rattle.waiting.specs.declared.Entered.the-variants.{Done, Refused as NotEntered}
-use Rattle.waiting.specs.declared.Picked.{Picked}
-use Rattle.waiting.specs.declared.Picked.the-variants.{Leaves, Nothing, Refused as NotPicked}
+use Rattle.classes.specs.Calls.{enterGives, pickGives}
+use Rattle.places.specs.declared.Waiting.{Waiting}
+use Rattle.places.specs.declared.Entry.{Entry}
+use Rattle.classes.specs.declared.Entered.{Entered}
+use Rattle.classes.specs.declared.Entered.the-variants.{Done, Refused as NotEntered}
+use Rattle.places.specs.declared.Picked.{Picked}
+use Rattle.places.specs.declared.Picked.the-variants.{Leaves, Nothing, Refused as NotPicked}
 use Rattle.bridge.specs.History.{Call, frame}
 use Rattle.event.specs.declared.Stop.{Stop}
 use Rattle.event.specs.declared.Step.the-variants.{Ends, Arrival, Pick}

@@ -8,17 +8,18 @@ use lib.Dec.{leb, eqb}
 use lib.ListN.{length, getD}
 use Rattle.quantity.specs.Ranges.{mostOf}
 use Rattle.quantity.specs.declared.Item.the-variants.{Class, Charge}
-use Rattle.waiting.specs.Queue.{classes, ticks, Shaped}
-use Rattle.waiting.specs.Soundness.{entrySound, allSound}
-use Rattle.waiting.specs.Places.{firstOf, dueOf, takeDue}
-use Rattle.waiting.specs.declared.Waiting.{Waiting}
-use Rattle.waiting.specs.declared.Entry.{Entry}
-use Rattle.waiting.specs.declared.First.{First}
-use Rattle.waiting.specs.declared.First.the-variants.{At, NoEntry}
-use Rattle.waiting.specs.declared.Smallest.{Smallest}
-use Rattle.waiting.specs.declared.Smallest.the-variants.{Time, NothingWaits}
-use Rattle.waiting.specs.declared.Picked.{Picked}
-use Rattle.waiting.specs.declared.Picked.the-variants.{Leaves, Nothing, Refused}
+use Rattle.places.specs.Queue.{classes, ticks, Shaped}
+use Rattle.classes.specs.Soundness.{entrySound, allSound}
+use Rattle.firsts.specs.Firsts.{firstOf}
+use Rattle.classes.specs.Calls.{dueOf, takeDue}
+use Rattle.places.specs.declared.Waiting.{Waiting}
+use Rattle.places.specs.declared.Entry.{Entry}
+use Rattle.firsts.specs.declared.First.{First}
+use Rattle.firsts.specs.declared.First.the-variants.{At, NoEntry}
+use Rattle.firsts.specs.declared.Smallest.{Smallest}
+use Rattle.firsts.specs.declared.Smallest.the-variants.{Time, NothingWaits}
+use Rattle.places.specs.declared.Picked.{Picked}
+use Rattle.places.specs.declared.Picked.the-variants.{Leaves, Nothing, Refused}
 use Rattle.line.specs.declared.Handed.{Handed}
 
 -- later than the time of any entry

@@ -9,9 +9,9 @@ use lib.ListN.{length, getD, take, drop}
 use Rattle.quantity.specs.Numbers.{numberOf}
 use Rattle.quantity.specs.declared.Refusal.{Refusal}
 use Rattle.quantity.specs.declared.Refusal.the-variants.{ClassFull}
-use Rattle.waiting.specs.Queue.{queue, Shaped}
-use Rattle.waiting.specs.Soundness.{allSound}
-use Rattle.waiting.specs.declared.Entry.{Entry}
+use Rattle.places.specs.Queue.{queue, Shaped}
+use Rattle.classes.specs.Soundness.{allSound}
+use Rattle.places.specs.declared.Entry.{Entry}
 use Rattle.bridge.specs.History.{Reply, replies, after}
 use Rattle.event.specs.Next.{stopNumber}
 use Rattle.event.specs.declared.Stop.{Stop}

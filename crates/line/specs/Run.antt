@@ -14,13 +14,14 @@ use Rattle.shaper.specs.Numbers.{charged, answerNumber}
 use Rattle.shaper.specs.declared.Group.{Group}
 use Rattle.shaper.specs.declared.Answer.{Answer}
 use Rattle.shaper.specs.declared.Answer.the-variants.{Released, Discarded, Refused as FrameRefused}
-use Rattle.waiting.specs.Soundness.{allSound}
-use Rattle.waiting.specs.Places.{smallestOf, enterGives, pickGives}
+use Rattle.classes.specs.Soundness.{allSound}
+use Rattle.firsts.specs.Firsts.{smallestOf}
+use Rattle.classes.specs.Calls.{enterGives, pickGives}
 use Rattle.waiting.specs.Answers.{enteredNumber}
-use Rattle.waiting.specs.declared.Waiting.{Waiting}
-use Rattle.waiting.specs.declared.AfterEnter.{AfterEnter}
-use Rattle.waiting.specs.declared.Picked.{Picked}
-use Rattle.waiting.specs.declared.Picked.the-variants.{Leaves, Nothing, Refused as NotPicked}
+use Rattle.places.specs.declared.Waiting.{Waiting}
+use Rattle.classes.specs.declared.AfterEnter.{AfterEnter}
+use Rattle.places.specs.declared.Picked.{Picked}
+use Rattle.places.specs.declared.Picked.the-variants.{Leaves, Nothing, Refused as NotPicked}
 use Rattle.bridge.specs.Tables.{groupAt, streamAt}
 use Rattle.bridge.specs.Calls.{frameCalled}
 use Rattle.bridge.specs.declared.Bridge.{Bridge}

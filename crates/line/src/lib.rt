@@ -1,9 +1,15 @@
 // The run of a list of arrivals against one line, event by event: an arrival is judged and enters its class, or the
-// entry that goes first leaves for the line. Which is next is `event`'s, judging `bridge`'s, entering and picking
-// `waiting`'s. Tables and queues stand in the run's own arrays, with the first of each class: no event copies a table.
+// entry that goes first leaves for the line. Which is next is `event`'s, judging `bridge`'s, putting and taking out
+// `places`', the first of a class `firsts`'. Tables and queues stand in the run's own arrays, with the first of each class:
+// no event copies a table.
 use bridge::Bridge;
 use event::Step;
 use event::Stop;
+use firsts::First;
+use firsts::Smallest;
+use places::Entry;
+use places::Picked;
+use places::Waiting;
 use quantity::Bits;
 use quantity::Item;
 use quantity::Rate;
@@ -12,20 +18,16 @@ use quantity::Ticks;
 use shaper::Answer;
 use shaper::Group;
 use shaper::ORDINARY_OVERHEAD;
-use waiting::Entry;
-use waiting::First;
-use waiting::Picked;
-use waiting::Smallest;
-use waiting::Waiting;
 ghost use mathlib.Core.Path.{_≡_};
 ghost use mathlib.Core.Bool.{true};
 ghost use Prim.Native.Nat.{_<_, _≤_, min};
 ghost use lib.ListN.{length, set};
 ghost use Rattle.quantity.specs.Ranges.{inRange, mostOf};
 ghost use Rattle.shaper.specs.ExactTime.{bitTime};
-ghost use Rattle.waiting.specs.Queue.{classes, lists};
-ghost use Rattle.waiting.specs.Soundness.{allSound};
-ghost use Rattle.waiting.specs.Places.{firstOf, putGives};
+ghost use Rattle.places.specs.Queue.{classes, lists};
+ghost use Rattle.classes.specs.Soundness.{allSound};
+ghost use Rattle.firsts.specs.Firsts.{firstOf};
+ghost use Rattle.places.specs.Places.{putGives};
 ghost use Rattle.line.specs.Run.{sendingTicks, handed, settled, listsFit, lineFits, begun, runFor, runGives};
 ghost use Rattle.line.specs.Firsts.{timeOf, placeOf, soonBelow, smallestIn, classBelow, Noted, Keeps, entryOf, Enterable, TakenDue};
 
@@ -101,7 +103,7 @@ fn note_first(
         × (now (places .exit) ≡ set (now (places .entry)) class (placeOf (firstOf (now (times .entry)) (now (fills .entry)) class))) ⌝ }
 {
     let c = wide(class);
-    let first = waiting::first_least(times, fills, class);
+    let first = firsts::first_least(times, fills, class);
     firsts[c] = time_of(first);
     places[c] = place_of(first);
 }
@@ -171,7 +173,7 @@ fn enqueue(
     let time = entry.time.0;
     let c = wide(class);
     let last = wide(fills[c]);
-    if !waiting::put(times, handles, bits, fills, class, entry) {
+    if !places::put(times, handles, bits, fills, class, entry) {
         return false;
     }
     if time < firsts[c] {
@@ -217,7 +219,7 @@ fn dequeue(
 {
     let class = due_class(firsts, moment.0);
     let place = places[wide(class)];
-    let left = waiting::take_out(times, handles, bits, fills, class, place);
+    let left = places::take_out(times, handles, bits, fills, class, place);
     note_first(times, fills, firsts, places, class);
     entry_of(left)
 }
@@ -473,7 +475,7 @@ pub fn run(
     let times = waiting.times;
     let bits = waiting.bits;
     let fills = waiting.fills;
-    if !waiting::all_sound(&times, &bits, &fills) {
+    if !classes::all_sound(&times, &bits, &fills) {
         return refused(Refusal::Unsound, bridge, waiting, start, free);
     }
     run_events(

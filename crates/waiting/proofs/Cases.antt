@@ -10,15 +10,16 @@ use Rattle.quantity.specs.Numbers.{numberOf}
 use Rattle.quantity.specs.declared.Item.the-variants.{Class, Charge, EntryTime}
 use Rattle.quantity.specs.declared.Refusal.{Refusal}
 use Rattle.quantity.specs.declared.Refusal.the-variants.{Unsound, LengthRange, TooLate, ClassRange, ClassFull}
-use Rattle.waiting.specs.declared.Waiting.{Waiting}
-use Rattle.waiting.specs.declared.Entry.{Entry}
-use Rattle.waiting.specs.declared.Entered.the-variants.{Done}
-use Rattle.waiting.specs.declared.Picked.the-variants.{Leaves, Nothing, Refused as NotPicked}
-use Rattle.waiting.specs.declared.Due.{Due}
-use Rattle.waiting.specs.declared.Due.the-variants.{From, NoneDue}
-use Rattle.waiting.specs.Queue.{places, countOf, entryAt}
-use Rattle.waiting.specs.Soundness.{classSound, allSound}
-use Rattle.waiting.specs.Places.{withLast, hasRoom, notEntered, enterGives, without, takeGives, dueOf, takeDue, pickGives}
+use Rattle.places.specs.declared.Waiting.{Waiting}
+use Rattle.places.specs.declared.Entry.{Entry}
+use Rattle.classes.specs.declared.Entered.the-variants.{Done}
+use Rattle.places.specs.declared.Picked.the-variants.{Leaves, Nothing, Refused as NotPicked}
+use Rattle.classes.specs.declared.Due.{Due}
+use Rattle.classes.specs.declared.Due.the-variants.{From, NoneDue}
+use Rattle.places.specs.Queue.{places, countOf, entryAt}
+use Rattle.classes.specs.Soundness.{classSound, allSound}
+use Rattle.places.specs.Places.{withLast, hasRoom, without, takeGives}
+use Rattle.classes.specs.Calls.{notEntered, enterGives, dueOf, takeDue, pickGives}
 
 differ : (a b : Refusal) → a ≡ b → (numberOf a ≡ numberOf b → ⊥) → ⊥
 differ a b e n = n (ap numberOf e)

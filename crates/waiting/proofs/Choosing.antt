@@ -7,12 +7,14 @@ use native.Mathlib.Omega.{arith}
 use lib.Dec.{ltb, leb}
 use borrow.Author.Tests.{leb-true, leb-false, ltb-true, ltb-false}
 use Rattle.quantity.specs.declared.Ticks.{Ticks}
-use Rattle.waiting.specs.declared.Waiting.{Waiting}
-use Rattle.waiting.specs.declared.First.{First}
-use Rattle.waiting.specs.declared.First.the-variants.{At, NoEntry}
-use Rattle.waiting.specs.declared.Due.the-variants.{From, NoneDue}
-use Rattle.waiting.specs.Queue.{classes, queue, Each, none, After}
-use Rattle.waiting.specs.Places.{firstIn, firstOf, dueOr, dueBelow}
+use Rattle.places.specs.declared.Waiting.{Waiting}
+use Rattle.firsts.specs.declared.First.{First}
+use Rattle.firsts.specs.declared.First.the-variants.{At, NoEntry}
+use Rattle.classes.specs.declared.Due.the-variants.{From, NoneDue}
+use Rattle.places.specs.Queue.{classes, queue}
+use Rattle.waiting.specs.Rules.{Each, none, After}
+use Rattle.firsts.specs.Firsts.{firstIn, firstOf}
+use Rattle.classes.specs.Calls.{dueOr, dueBelow}
 use Rattle.waiting.proofs.Lines.{timesOf, Leads, leads, no-one, none-before, each-more}
 use Rattle.waiting.proofs.Standing.{queue-times, queue-beyond}
 

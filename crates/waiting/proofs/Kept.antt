@@ -13,16 +13,19 @@ use Rattle.quantity.specs.declared.Refusal.the-variants.{ClassFull}
 use Rattle.quantity.proofs.Booleans.{both}
 use Rattle.quantity.proofs.Ranges.{within}
 use Rattle.quantity.specs.declared.Ticks.{Ticks}
-use Rattle.waiting.specs.declared.Waiting.{Waiting}
-use Rattle.waiting.specs.declared.Entry.{Entry}
-use Rattle.waiting.specs.declared.Entered.the-variants.{Done, Refused as NotEntered}
-use Rattle.waiting.specs.declared.AfterEnter.{AfterEnter}
-use Rattle.waiting.specs.declared.First.{First}
-use Rattle.waiting.specs.declared.First.the-variants.{At, NoEntry}
-use Rattle.waiting.specs.Queue.{places, countOf, ticks, entryAt, entriesFrom, queue, Shaped, none, one}
-use Rattle.waiting.specs.Soundness.{entrySound}
-use Rattle.waiting.specs.Places.{withLast, hasRoom, AfterPut, putGives, notEntered, enterGives, firstFrom, firstIn, firstOf, without, dueOf, takeDue, pickGives}
-use Rattle.waiting.proofs.Scans.{count-is, count-all}
+use Rattle.places.specs.declared.Waiting.{Waiting}
+use Rattle.places.specs.declared.Entry.{Entry}
+use Rattle.classes.specs.declared.Entered.the-variants.{Done, Refused as NotEntered}
+use Rattle.classes.specs.declared.AfterEnter.{AfterEnter}
+use Rattle.firsts.specs.declared.First.{First}
+use Rattle.firsts.specs.declared.First.the-variants.{At, NoEntry}
+use Rattle.places.specs.Queue.{places, countOf, ticks, entryAt, entriesFrom, queue, Shaped}
+use Rattle.waiting.specs.Rules.{none, one}
+use Rattle.classes.specs.Soundness.{entrySound}
+use Rattle.places.specs.Places.{withLast, hasRoom, AfterPut, putGives, without}
+use Rattle.classes.specs.Calls.{notEntered, enterGives, dueOf, takeDue, pickGives}
+use Rattle.firsts.specs.Firsts.{firstFrom, firstIn, firstOf}
+use Rattle.places.proofs.Counts.{count-is, count-all}
 use Rattle.waiting.proofs.Lines.{timesOf, Leads, each-join, each-split, each-head, same-front}
 use Rattle.waiting.proofs.Standing.{queue-length, last-entered, others-stay, ahead-length, stood, stands, others-remain, shaped-entered, shaped-left}
 use Rattle.waiting.proofs.SoundClasses.{Fine, AllSound, each-class, class-means, stays-sound}

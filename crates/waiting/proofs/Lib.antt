@@ -1,7 +1,3 @@
-pub mod Scans
-pub mod Firsts
-pub mod Gaps
-pub mod Calls
 pub mod Lines
 pub mod Standing
 pub mod SoundClasses

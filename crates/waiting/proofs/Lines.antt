@@ -7,10 +7,11 @@ use native.Mathlib.Omega.{arith}
 use lib.Dec.{ltb}
 use lib.ListN.{length, length-append}
 use borrow.Author.Tests.{ltb-true, ltb-false}
-use Rattle.waiting.specs.declared.Entry.{Entry}
-use Rattle.waiting.specs.declared.First.the-variants.{At, NoEntry}
-use Rattle.waiting.specs.Queue.{ticks, Each, none, one, After, NotBefore}
-use Rattle.waiting.specs.Places.{firstFrom, firstIn}
+use Rattle.places.specs.declared.Entry.{Entry}
+use Rattle.firsts.specs.declared.First.the-variants.{At, NoEntry}
+use Rattle.places.specs.Queue.{ticks}
+use Rattle.waiting.specs.Rules.{Each, none, one, After, NotBefore}
+use Rattle.firsts.specs.Firsts.{firstFrom, firstIn}
 
 -- ---- each
 pub each-more : {P Q : Entry → Type 0} {q : List Entry} → ((e : Entry) → P e → Q e) → Each P q → Each Q q

@@ -11,22 +11,25 @@ use borrow.Author.Tests.{ltb-true, ltb-false, eqb-true, eqb-false}
 use Rattle.quantity.specs.declared.Item.the-variants.{Class}
 use Rattle.quantity.specs.declared.Refusal.the-variants.{Unsound, ClassFull}
 use Rattle.quantity.proofs.Ranges.{at-most}
-use Rattle.waiting.specs.declared.Waiting.{Waiting}
-use Rattle.waiting.specs.declared.Entry.{Entry}
-use Rattle.waiting.specs.declared.Entered.{Entered}
-use Rattle.waiting.specs.declared.Entered.the-variants.{Done, Refused as NotEntered}
-use Rattle.waiting.specs.declared.AfterEnter.{AfterEnter}
-use Rattle.waiting.specs.declared.Picked.{Picked}
-use Rattle.waiting.specs.declared.Picked.the-variants.{Leaves, Nothing, Refused as NotPicked}
-use Rattle.waiting.specs.declared.AfterPick.{AfterPick}
-use Rattle.waiting.specs.declared.Smallest.the-variants.{NothingWaits}
+use Rattle.places.specs.declared.Waiting.{Waiting}
+use Rattle.places.specs.declared.Entry.{Entry}
+use Rattle.classes.specs.declared.Entered.{Entered}
+use Rattle.classes.specs.declared.Entered.the-variants.{Done, Refused as NotEntered}
+use Rattle.classes.specs.declared.AfterEnter.{AfterEnter}
+use Rattle.places.specs.declared.Picked.{Picked}
+use Rattle.places.specs.declared.Picked.the-variants.{Leaves, Nothing, Refused as NotPicked}
+use Rattle.places.specs.declared.AfterPick.{AfterPick}
+use Rattle.firsts.specs.declared.Smallest.the-variants.{NothingWaits}
 use Rattle.quantity.specs.declared.Ticks.{Ticks}
-use Rattle.waiting.specs.Queue.{places, classes, nothing, countOf, entryAt, entriesFrom, queue, Shaped, Each, none, NotBefore, Enters, Picks, NothingEligible, SmallestTime}
-use Rattle.waiting.specs.Soundness.{every, entrySound, classSound, allSound}
-use Rattle.waiting.specs.Places.{withLast, hasRoom, notEntered, enterGives, without, dueOf, pickGives, smallestOf}
+use Rattle.places.specs.Queue.{places, classes, nothing, countOf, entryAt, entriesFrom, queue, Shaped}
+use Rattle.waiting.specs.Rules.{Each, none, NotBefore, Enters, Picks, NothingEligible, SmallestTime}
+use Rattle.classes.specs.Soundness.{every, entrySound, classSound, allSound}
+use Rattle.places.specs.Places.{withLast, hasRoom, without}
+use Rattle.classes.specs.Calls.{notEntered, enterGives, dueOf, pickGives}
+use Rattle.firsts.specs.Firsts.{smallestOf}
 use Rattle.waiting.specs.Answers.{enteredNumber, pickedNumber, pickedValues}
 use Rattle.waiting.specs.Promises.{start, entering, picking, ReachedIsSound, ReachedIsNeverRefused, EnteredIsLast, FullIsThirtyTwo, PickedIsFirst, PickIsFixed, NothingIsNothing, RefusedChangesNothing, SmallestIsSmallest}
-use Rattle.waiting.proofs.Scans.{count-is}
+use Rattle.places.proofs.Counts.{count-is}
 use Rattle.waiting.proofs.Lines.{each-split, each-head, same-first}
 use Rattle.waiting.proofs.Standing.{queue-length, queue-beyond, last-entered, others-stay, stood, stands, others-remain}
 use Rattle.waiting.proofs.SoundClasses.{Fine, each-class, class-means}

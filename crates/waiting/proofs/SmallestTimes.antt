@@ -7,14 +7,15 @@ use native.Mathlib.Omega.{arith}
 use lib.Dec.{ltb, leb}
 use borrow.Author.Tests.{ltb-true, ltb-false, leb-true, leb-false}
 use Rattle.quantity.specs.declared.Ticks.{Ticks}
-use Rattle.waiting.specs.declared.Waiting.{Waiting}
-use Rattle.waiting.specs.declared.Entry.{Entry}
-use Rattle.waiting.specs.declared.First.{First}
-use Rattle.waiting.specs.declared.First.the-variants.{At, NoEntry}
-use Rattle.waiting.specs.declared.Smallest.{Smallest}
-use Rattle.waiting.specs.declared.Smallest.the-variants.{Time, NothingWaits}
-use Rattle.waiting.specs.Queue.{queue, ticks, Each, none, NotBefore}
-use Rattle.waiting.specs.Places.{firstOf, smaller, smallestBelow}
+use Rattle.places.specs.declared.Waiting.{Waiting}
+use Rattle.places.specs.declared.Entry.{Entry}
+use Rattle.firsts.specs.declared.First.{First}
+use Rattle.firsts.specs.declared.First.the-variants.{At, NoEntry}
+use Rattle.firsts.specs.declared.Smallest.{Smallest}
+use Rattle.firsts.specs.declared.Smallest.the-variants.{Time, NothingWaits}
+use Rattle.places.specs.Queue.{queue, ticks}
+use Rattle.waiting.specs.Rules.{Each, none, NotBefore}
+use Rattle.firsts.specs.Firsts.{firstOf, smaller, smallestBelow}
 use Rattle.waiting.proofs.Lines.{none-before, each-more}
 use Rattle.waiting.proofs.Choosing.{leads-class, empty-class}
 

@@ -8,11 +8,12 @@ use lib.ListN.{getD, set}
 use lib.Seq.{getD-set-same, getD-set-other}
 use borrow.Author.Tests.{leb-true, le-leb, ltb-true, ltb-false, eqb-true, eqb-false}
 use Rattle.quantity.proofs.Booleans.{both}
-use Rattle.waiting.specs.declared.Waiting.{Waiting}
-use Rattle.waiting.specs.declared.Entry.{Entry}
-use Rattle.waiting.specs.Queue.{places, classes, entryAt, entriesFrom, queue, Shaped, Each, none, one}
-use Rattle.waiting.specs.Soundness.{every, entrySound, soundAt, classSound, allSound}
-use Rattle.waiting.proofs.Scans.{count-is}
+use Rattle.places.specs.declared.Waiting.{Waiting}
+use Rattle.places.specs.declared.Entry.{Entry}
+use Rattle.places.specs.Queue.{places, classes, entryAt, entriesFrom, queue, Shaped}
+use Rattle.waiting.specs.Rules.{Each, none, one}
+use Rattle.classes.specs.Soundness.{every, entrySound, soundAt, classSound, allSound}
+use Rattle.places.proofs.Counts.{count-is}
 use Rattle.waiting.proofs.Lines.{each-head}
 
 -- the entry is sound

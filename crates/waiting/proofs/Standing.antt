@@ -9,12 +9,13 @@ use lib.Dec.{ltb}
 use lib.ListN.{length, getD, set, length-set}
 use lib.Seq.{getD-set-same, getD-set-other}
 use borrow.Author.Tests.{ltb-true, ltb-false}
-use Rattle.waiting.specs.declared.Waiting.{Waiting}
-use Rattle.waiting.specs.declared.Entry.{Entry}
-use Rattle.waiting.specs.Queue.{places, countOf, entryAt, entriesFrom, queue, Shaped}
-use Rattle.waiting.specs.Places.{part, withLast, without}
-use Rattle.waiting.proofs.Scans.{count-is, count-all, none-beyond}
-use Rattle.waiting.proofs.Gaps.{gap-length, gap-other, gap-down}
+use Rattle.places.specs.declared.Waiting.{Waiting}
+use Rattle.places.specs.declared.Entry.{Entry}
+use Rattle.places.specs.Queue.{places, countOf, entryAt, entriesFrom, queue, Shaped}
+use Rattle.firsts.specs.Firsts.{part}
+use Rattle.places.specs.Places.{withLast, without}
+use Rattle.places.proofs.Counts.{count-is, count-all, none-beyond}
+use Rattle.places.proofs.Gaps.{gap-length, gap-other, gap-down}
 use Rattle.waiting.proofs.Lines.{timesOf}
 
 -- ---- stretches of entries

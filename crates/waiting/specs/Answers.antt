@@ -3,10 +3,10 @@
 use Prim.Native.Nat.{ℕ}
 use mathlib.Core.List.{List, [], _∷_}
 use Rattle.quantity.specs.Numbers.{numberOf}
-use Rattle.waiting.specs.declared.Entered.{Entered}
-use Rattle.waiting.specs.declared.Entered.the-variants.{Done, Refused as NotEntered}
-use Rattle.waiting.specs.declared.Picked.{Picked}
-use Rattle.waiting.specs.declared.Picked.the-variants.{Leaves, Nothing, Refused as NotPicked}
+use Rattle.classes.specs.declared.Entered.{Entered}
+use Rattle.classes.specs.declared.Entered.the-variants.{Done, Refused as NotEntered}
+use Rattle.places.specs.declared.Picked.{Picked}
+use Rattle.places.specs.declared.Picked.the-variants.{Leaves, Nothing, Refused as NotPicked}
 
 -- the number that entering answers; no value comes with it
 abbrev pub enteredNumber : Entered → ℕ

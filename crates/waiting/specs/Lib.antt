@@ -1,5 +1,3 @@
-pub mod Queue
-pub mod Soundness
-pub mod Places
+pub mod Rules
 pub mod Answers
 pub mod Promises

@@ -6,15 +6,17 @@ use mathlib.Core.Bool.{true}
 use mathlib.Core.List.{[]}
 use lib.ListN.{length}
 use Rattle.quantity.specs.declared.Refusal.the-variants.{ClassFull, Unsound}
-use Rattle.waiting.specs.declared.Waiting.{Waiting}
-use Rattle.waiting.specs.declared.Entry.{Entry}
-use Rattle.waiting.specs.declared.Entered.the-variants.{Done, Refused as NotEntered}
-use Rattle.waiting.specs.declared.Picked.the-variants.{Leaves, Nothing, Refused as NotPicked}
-use Rattle.waiting.specs.declared.Smallest.the-variants.{Time, NothingWaits}
+use Rattle.places.specs.declared.Waiting.{Waiting}
+use Rattle.places.specs.declared.Entry.{Entry}
+use Rattle.classes.specs.declared.Entered.the-variants.{Done, Refused as NotEntered}
+use Rattle.places.specs.declared.Picked.the-variants.{Leaves, Nothing, Refused as NotPicked}
+use Rattle.firsts.specs.declared.Smallest.the-variants.{Time, NothingWaits}
 use Rattle.quantity.specs.declared.Ticks.{Ticks}
-use Rattle.waiting.specs.Queue.{places, nothing, queue, Shaped, Enters, Picks, NothingEligible, SmallestTime}
-use Rattle.waiting.specs.Soundness.{allSound}
-use Rattle.waiting.specs.Places.{enterGives, pickGives, smallestOf}
+use Rattle.places.specs.Queue.{places, nothing, queue, Shaped}
+use Rattle.waiting.specs.Rules.{Enters, Picks, NothingEligible, SmallestTime}
+use Rattle.classes.specs.Soundness.{allSound}
+use Rattle.classes.specs.Calls.{enterGives, pickGives}
+use Rattle.firsts.specs.Firsts.{smallestOf}
 use Rattle.waiting.specs.Answers.{enteredNumber, pickedNumber, pickedValues}
 
 -- waiting places reached from the empty ones by entering and picking

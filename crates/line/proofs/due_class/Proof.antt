@@ -3,7 +3,7 @@ use borrow.Author.Needs.{needs}
 use mathlib.Core.Path.{_≡_, refl, _∙_}
 use Prim.Native.Nat.{_≤_}
 use native.Mathlib.Omega.{arith}
-use Rattle.waiting.specs.Queue.{classes}
+use Rattle.places.specs.Queue.{classes}
 use Rattle.line.specs.Firsts.{classBelow}
 use Rattle.line.proofs.Searches.{class-here, class-lower, class-none}
 use Rattle.line.proofs.due_class.Statement.{statement}

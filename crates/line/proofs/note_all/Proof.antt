@@ -3,7 +3,7 @@ use borrow.Author.Needs.{needs}
 use mathlib.Core.Path.{_≡_}
 use Prim.Native.Nat.{_-_, _≤_}
 use native.Mathlib.Omega.{arith}
-use Rattle.waiting.specs.Queue.{classes}
+use Rattle.places.specs.Queue.{classes}
 use Rattle.line.specs.Firsts.{Noted}
 use Rattle.line.proofs.Noting.{note-next}
 use Rattle.line.proofs.note_all.Statement.{statement}

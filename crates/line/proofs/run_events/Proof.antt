@@ -7,7 +7,7 @@ use borrow.Author.Needs.{length-unmapped}
 use lib.ListN.{length}
 use Rattle.quantity.specs.declared.Item.the-variants.{PickMoment}
 use Rattle.quantity.proofs.Ranges.{at-most}
-use Rattle.waiting.specs.Queue.{lists}
+use Rattle.places.specs.Queue.{lists}
 use Rattle.event.proofs.Steps.{Picks}
 use Rattle.line.specs.Run.{stopped, begun}
 use Rattle.line.proofs.Settling.{stream-found, group-found}

@@ -3,7 +3,7 @@ use borrow.Author.Needs.{needs}
 use mathlib.Core.Path.{_≡_, refl}
 use Prim.Native.Nat.{_-_, _≤_}
 use native.Mathlib.Omega.{arith}
-use Rattle.waiting.specs.Queue.{classes}
+use Rattle.places.specs.Queue.{classes}
 use Rattle.line.specs.Firsts.{soonBelow}
 use Rattle.line.proofs.Searches.{soon-next, soon-none, soon-some}
 use Rattle.line.proofs.soonest.Statement.{statement}

@@ -2,7 +2,7 @@
 use Rattle.waiting.proofs.empty.Statement.{statement}
 use Rattle.waiting.proofs.empty.Tie as tie
 use mathlib.Core.Path.{refl}
-use Rattle.waiting.specs.Queue.{nothing}
+use Rattle.places.specs.Queue.{nothing}
 
 returns : tie.Need-returns
 unfolding nothing
