@@ -3,7 +3,7 @@
  * The firmware keeps the records and lends them to each call, which rewrites them where they stand. Records come zeroed
  * (nothing is set up), and from then on only these calls write them. A call takes any numbers: what does not fit is
  * refused by its number, and a refused call changes nothing that was lent. Each call is proved to do what
- * crates/receive/specs says, for every argument, and always returns.
+ * crates/firmware/specs says, for every argument, and always returns.
  *
  * What C must see to: no pointer is null or misaligned, the things lent to one call do not overlap, a bool holds 0 or 1,
  * `streams` has `places` records, and no other context uses them during the call.

@@ -10,24 +10,28 @@ use Rattle.quantity.specs.declared.Item.the-variants.{GroupId, StreamId, Class,
 use Rattle.quantity.specs.declared.Refusal.{Refusal}
 use Rattle.quantity.specs.declared.Refusal.the-variants.{Unsound, IdRange, SetUpBefore, NoStream, NoGroup, RateRange, BurstRange, ClassRange, ResidenceRange}
 use Rattle.shaper.specs.Frame.{processFrame}
-use Rattle.shaper.specs.Sound.{sound, soundGroup}
-use Rattle.shaper.specs.SetUp.{freshGroup, freshStream, groupSetUp, streamSetUp}
-use Rattle.shaper.specs.Numbers.{isSetUp, judged, refused, charged}
-use Rattle.shaper.specs.declared.Group.{Group}
-use Rattle.shaper.specs.declared.Stream.{Stream}
+use Rattle.records.specs.Sound.{sound, soundGroup}
+use Rattle.records.specs.SetUp.{freshGroup, freshStream, groupSetUp, streamSetUp}
+use Rattle.records.specs.Numbers.{isSetUp}
+use Rattle.shaper.specs.Numbers.{judged, refused}
+use Rattle.quantity.specs.Charge.{charged}
+use Rattle.records.specs.declared.Group.{Group}
+use Rattle.records.specs.declared.Stream.{Stream}
 use Rattle.shaper.specs.declared.Judged.{Judged}
-use Rattle.shaper.specs.declared.Answer.{Answer}
+use Rattle.records.specs.declared.Answer.{Answer}
 use Rattle.shaper.proofs.Judging.{Passes, Verdict, verdict, not-set-up}
-use Rattle.shaper.proofs.Fresh.{class-out, residence-out, group-done, group-out, group-unused, group-unsound, rate-out, burst-out, stream-done}
+use Rattle.records.proofs.Fresh.{class-out, residence-out, group-done, group-out, group-unused, group-unsound, rate-out, burst-out, stream-done}
 use Rattle.bridge.specs.Tables.{noGroup, noStream, groupAt, streamAt, withGroup, withStream}
-use Rattle.bridge.specs.Calls.{groupTaken, groupPlaced, streamTaken, streamPlaced, judgedAt, groupStored, groupCalled, streamStored, streamCalled, frameStored, frameCalled}
+use Rattle.calls.specs.Calls.{groupTaken, groupPlaced, streamTaken, streamPlaced, judgedAt}
+use Rattle.bridge.specs.Calls.{groupStored, groupCalled, streamStored, streamCalled, frameStored, frameCalled}
 use Rattle.bridge.specs.declared.Bridge.{Bridge}
-use Rattle.bridge.specs.declared.PlacedGroup.{PlacedGroup}
-use Rattle.bridge.specs.declared.PlacedStream.{PlacedStream}
+use Rattle.calls.specs.declared.PlacedGroup.{PlacedGroup}
+use Rattle.calls.specs.declared.PlacedStream.{PlacedStream}
 use Rattle.bridge.specs.declared.BridgeSetUp.{BridgeSetUp}
 use Rattle.bridge.specs.declared.Framed.{Framed}
-use Rattle.bridge.specs.declared.SetUp.the-variants.{Done, Refused}
-use Rattle.bridge.proofs.Places.{same-group, same-stream, group-id-out, group-before, group-taken, stream-id-out, stream-before, stream-taken, frame-id-out, frame-id-in}
+use Rattle.calls.specs.declared.SetUp.the-variants.{Done, Refused}
+use Rattle.bridge.proofs.Tables.{same-group, same-stream}
+use Rattle.calls.proofs.Places.{group-id-out, group-before, group-taken, stream-id-out, stream-before, stream-taken, frame-id-out, frame-id-in}
 
 -- ---- setting up a group
 pub record NewGroup (b : Bridge) (i c M : ℕ) : Type 0 where

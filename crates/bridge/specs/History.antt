@@ -5,12 +5,13 @@ use mathlib.Core.Bool.{Bool, cond, _&&_}
 use mathlib.Core.List.{List, [], _∷_, _++_}
 use lib.Dec.{leb, eqb}
 use Rattle.shaper.specs.Frame.{burstOf}
-use Rattle.shaper.specs.Numbers.{charged, answerNumber, answerValues}
-use Rattle.shaper.specs.declared.Answer.{Answer}
-use Rattle.shaper.specs.declared.Answer.the-variants.{Released, Discarded, Refused}
+use Rattle.quantity.specs.Charge.{charged}
+use Rattle.records.specs.Numbers.{answerNumber, answerValues}
+use Rattle.records.specs.declared.Answer.{Answer}
+use Rattle.records.specs.declared.Answer.the-variants.{Released, Discarded, Refused}
 use Rattle.bridge.specs.Tables.{streamAt, freshBridge}
 use Rattle.bridge.specs.Calls.{groupCalled, streamCalled, frameCalled}
-use Rattle.bridge.specs.Numbers.{setUpNumber}
+use Rattle.calls.specs.Numbers.{setUpNumber}
 use Rattle.bridge.specs.declared.Bridge.{Bridge}
 
 -- ---- calls and their answers

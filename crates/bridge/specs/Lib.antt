@@ -1,4 +1,3 @@
 pub mod Tables
 pub mod Calls
-pub mod Numbers
 pub mod History

@@ -1,14 +1,13 @@
 -- Document 01, 'Quantities' and 'One frame through a scheduler': the tables of 16 groups and 64 streams.
 -- b is a bridge, i an id. A place that is not set up holds an empty record.
 use Prim.Native.Nat.{ℕ}
-use mathlib.Core.Bool.{Bool, false, cond}
-use lib.Dec.{ltb}
+use mathlib.Core.Bool.{false}
 use lib.ListN.{getD, set, replicate}
 use Rattle.quantity.specs.declared.Rate.{Rate}
-use Rattle.shaper.specs.Frame.{ticks}
-use Rattle.shaper.specs.declared.Group.{Group}
-use Rattle.shaper.specs.declared.Stream.{Stream}
-use Rattle.shaper.specs.declared.Regulator.the-variants.{Unset}
+use Rattle.records.specs.ExactTime.{ticks}
+use Rattle.records.specs.declared.Group.{Group}
+use Rattle.records.specs.declared.Stream.{Stream}
+use Rattle.records.specs.declared.Regulator.the-variants.{Unset}
 use Rattle.bridge.specs.declared.Bridge.{Bridge}
 
 -- a group and a stream that are not set up
@@ -35,10 +34,3 @@ withGroup b i g = record { groups = set (b .groups) i g; streams = b .streams }
 
 unfoldable pub withStream : Bridge → ℕ → Stream → Bridge
 withStream b i s = record { groups = b .groups; streams = set (b .streams) i s }
-
--- where the code looks for an id: at its place, or at place 0 for an id out of range
-unfoldable pub groupPlace : ℕ → ℕ
-groupPlace i = cond (ltb i 16) i 0
-
-unfoldable pub streamPlace : ℕ → ℕ
-streamPlace i = cond (ltb i 64) i 0

@@ -4,7 +4,6 @@
 use bridge::Bridge;
 use bridge::BridgeSetUp;
 use bridge::Framed;
-use bridge::SetUp;
 use classes::AfterEnter;
 use classes::Entered;
 use line::Ran;
@@ -16,8 +15,8 @@ use quantity::Bits;
 use quantity::Rate;
 use quantity::Ticks;
 use quantity::refusal_number;
-use shaper::Answer;
-use shaper::answer_number;
+use records::Answer;
+use records::answer_number;
 use tablefile::Record;
 
 const GIGABIT: u64 = 1_000_000_000;
@@ -40,10 +39,7 @@ fn say(what: &[u8], n: u64) {
 
 fn set_up_number(after: BridgeSetUp) -> u64 {
     let answer = after.answer;
-    match answer {
-        SetUp::Done => 0,
-        SetUp::Refused(why) => refusal_number(why) as u64,
-    }
+    calls::set_up_number(answer) as u64
 }
 
 fn framed_number(after: Framed) -> u64 {

@@ -12,10 +12,10 @@ use Rattle.quantity.specs.declared.Item.the-variants.{Charge}
 use Rattle.quantity.specs.declared.Refusal.{Refusal}
 use Rattle.quantity.specs.declared.Refusal.the-variants.{Unsound, NoStream, LengthRange, AboveBurst, TooLate, BeforeLast, IdRange, SetUpBefore, NoGroup, RateRange, BurstRange, ResidenceRange, ClassRange, ClassFull, UnknownMark, CutShort, NoRoom, ListsUnfit, LineUnfit}
 use Rattle.quantity.specs.declared.Ticks.{Ticks}
-use Rattle.shaper.specs.Numbers.{answerNumber}
-use Rattle.shaper.specs.declared.Group.{Group}
-use Rattle.shaper.specs.declared.Answer.{Answer}
-use Rattle.shaper.specs.declared.Answer.the-variants.{Released, Discarded, Refused}
+use Rattle.records.specs.Numbers.{answerNumber}
+use Rattle.records.specs.declared.Group.{Group}
+use Rattle.records.specs.declared.Answer.{Answer}
+use Rattle.records.specs.declared.Answer.the-variants.{Released, Discarded, Refused}
 use Rattle.places.specs.Queue.{places, entryAt, Shaped}
 use Rattle.waiting.specs.Rules.{Each, After, Enters, Picks, NothingEligible}
 use Rattle.classes.specs.Soundness.{allSound}

@@ -13,7 +13,7 @@ use Rattle.quantity.specs.declared.Refusal.{Refusal}
 use Rattle.quantity.specs.declared.Refusal.the-variants.{Unsound, ListsUnfit, LineUnfit}
 use Rattle.quantity.specs.declared.Ticks.{Ticks}
 use Rattle.quantity.proofs.Ranges.{within, at-most}
-use Rattle.shaper.specs.Frame.{ticks}
+use Rattle.records.specs.ExactTime.{ticks}
 use Rattle.classes.specs.Soundness.{allSound}
 use Rattle.firsts.specs.Firsts.{smallestOf}
 use Rattle.classes.specs.Calls.{pickGives}

@@ -7,7 +7,7 @@ use native.Mathlib.Omega.{arith}
 use Rattle.quantity.specs.Ranges.{inRange, mostOf}
 use Rattle.quantity.specs.declared.Item.the-variants.{LineRate, Charge}
 use Rattle.quantity.proofs.Ranges.{at-least}
-use Rattle.shaper.specs.ExactTime.{bitTime}
+use Rattle.records.specs.ExactTime.{bitTime}
 
 pub sending-most : (b r : ℕ) → inRange LineRate r ≡ true → b ≤ mostOf Charge → (bitTime b + (r - 1)) / r ≤ bitTime (mostOf Charge)
 sending-most b r h k =

@@ -13,27 +13,28 @@ use Rattle.quantity.specs.declared.Refusal.{Refusal}
 use Rattle.quantity.specs.declared.Refusal.the-variants.{ClassFull}
 use Rattle.quantity.specs.declared.Ticks.{Ticks}
 use Rattle.quantity.proofs.Ranges.{within, at-most}
-use Rattle.shaper.specs.Frame.{eligibilityTime, discarded, released, processFrame}
-use Rattle.shaper.specs.Frame.{settled as settledBy}
-use Rattle.shaper.specs.Numbers.{charged, answerNumber}
-use Rattle.shaper.specs.declared.Group.{Group}
-use Rattle.shaper.specs.declared.Stream.{Stream}
+use Rattle.shaper.specs.Frame.{eligibilityTime, discarded, released, processFrame, settled as settledBy}
+use Rattle.quantity.specs.Charge.{charged}
+use Rattle.records.specs.Numbers.{answerNumber}
+use Rattle.records.specs.declared.Group.{Group}
+use Rattle.records.specs.declared.Stream.{Stream}
 use Rattle.shaper.specs.declared.Judged.{Judged}
-use Rattle.shaper.specs.declared.Answer.{Answer}
-use Rattle.shaper.specs.declared.Answer.the-variants.{Released, Discarded, Refused}
-use Rattle.shaper.proofs.Soundness.{sound-ok}
-use Rattle.shaper.proofs.Charging.{charge-in-range}
+use Rattle.records.specs.declared.Answer.{Answer}
+use Rattle.records.specs.declared.Answer.the-variants.{Released, Discarded, Refused}
+use Rattle.records.proofs.Soundness.{sound-ok}
+use Rattle.quantity.proofs.Charging.{charge-in-range}
 use Rattle.classes.specs.Soundness.{entrySound, allSound}
 use Rattle.places.specs.Places.{AfterPut, putGives}
 use Rattle.classes.specs.Calls.{enterGives}
 use Rattle.places.specs.declared.Waiting.{Waiting}
 use Rattle.classes.specs.declared.Entered.the-variants.{Done, Refused as NotEntered}
 use Rattle.waiting.proofs.Kept.{enter-untested}
-use Rattle.bridge.specs.Tables.{noGroup, noStream, groupAt, streamAt, groupPlace, streamPlace}
+use Rattle.bridge.specs.Tables.{noGroup, noStream, groupAt, streamAt}
+use Rattle.calls.specs.Places.{groupPlace, streamPlace}
 use Rattle.bridge.specs.Calls.{frameStored, frameCalled}
 use Rattle.bridge.specs.declared.Bridge.{Bridge}
 use Rattle.bridge.specs.declared.Framed.{Framed}
-use Rattle.bridge.proofs.Places.{group-own, stream-own, group-below, stream-below}
+use Rattle.calls.proofs.Places.{group-own, stream-own, group-below, stream-below}
 use Rattle.bridge.proofs.Views.{JudgedFrame, frame-view}
 use Rattle.line.specs.Run.{handed, entered, settled}
 use Rattle.line.specs.Firsts.{Enterable}

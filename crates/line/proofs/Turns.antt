@@ -14,8 +14,8 @@ use Rattle.quantity.specs.declared.Refusal.the-variants.{Unsound, ListsUnfit, L
 use Rattle.quantity.specs.declared.Ticks.{Ticks}
 use Rattle.quantity.proofs.Booleans.{both}
 use Rattle.quantity.proofs.Ranges.{at-most}
-use Rattle.shaper.specs.Frame.{ticks}
-use Rattle.shaper.specs.declared.Answer.the-variants.{Released}
+use Rattle.records.specs.ExactTime.{ticks}
+use Rattle.records.specs.declared.Answer.the-variants.{Released}
 use Rattle.shaper.specs.declared.Judged.{Judged}
 use Rattle.places.specs.Queue.{classes}
 use Rattle.classes.specs.Soundness.{allSound}
@@ -27,11 +27,13 @@ use Rattle.firsts.specs.declared.Smallest.{Smallest}
 use Rattle.places.specs.declared.Picked.the-variants.{Leaves}
 use Rattle.places.specs.declared.AfterPick.{AfterPick}
 use Rattle.waiting.proofs.Kept.{pick-untested}
-use Rattle.bridge.specs.Tables.{noGroup, noStream, groupPlace, streamPlace}
-use Rattle.bridge.specs.Calls.{judgedAt, frameCalled}
+use Rattle.bridge.specs.Tables.{noGroup, noStream}
+use Rattle.calls.specs.Places.{groupPlace, streamPlace}
+use Rattle.calls.specs.Calls.{judgedAt}
+use Rattle.bridge.specs.Calls.{frameCalled}
 use Rattle.bridge.specs.declared.Bridge.{Bridge}
 use Rattle.bridge.specs.declared.Framed.{Framed}
-use Rattle.bridge.proofs.Places.{frame-call}
+use Rattle.bridge.proofs.Tables.{frame-call}
 use Rattle.event.specs.Next.{nextEvent, stepFor}
 use Rattle.event.specs.declared.Stop.{Stop}
 use Rattle.event.specs.declared.Stop.the-variants.{Refused}

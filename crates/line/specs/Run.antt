@@ -8,12 +8,12 @@ use lib.ListN.{length, getD, set}
 use Rattle.quantity.specs.Ranges.{inRange}
 use Rattle.quantity.specs.declared.Item.the-variants.{LineRate, LineFree, ListPlaces}
 use Rattle.quantity.specs.declared.Refusal.the-variants.{Unsound, ListsUnfit, LineUnfit}
-use Rattle.shaper.specs.ExactTime.{bitTime}
-use Rattle.shaper.specs.Frame.{ticks}
-use Rattle.shaper.specs.Numbers.{charged, answerNumber}
-use Rattle.shaper.specs.declared.Group.{Group}
-use Rattle.shaper.specs.declared.Answer.{Answer}
-use Rattle.shaper.specs.declared.Answer.the-variants.{Released, Discarded, Refused as FrameRefused}
+use Rattle.records.specs.ExactTime.{bitTime, ticks}
+use Rattle.quantity.specs.Charge.{charged}
+use Rattle.records.specs.Numbers.{answerNumber}
+use Rattle.records.specs.declared.Group.{Group}
+use Rattle.records.specs.declared.Answer.{Answer}
+use Rattle.records.specs.declared.Answer.the-variants.{Released, Discarded, Refused as FrameRefused}
 use Rattle.classes.specs.Soundness.{allSound}
 use Rattle.firsts.specs.Firsts.{smallestOf}
 use Rattle.classes.specs.Calls.{enterGives, pickGives}

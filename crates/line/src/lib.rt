@@ -12,18 +12,18 @@ use places::Picked;
 use places::Waiting;
 use quantity::Bits;
 use quantity::Item;
+use quantity::ORDINARY_OVERHEAD;
 use quantity::Rate;
 use quantity::Refusal;
 use quantity::Ticks;
-use shaper::Answer;
-use shaper::Group;
-use shaper::ORDINARY_OVERHEAD;
+use records::Answer;
+use records::Group;
 ghost use mathlib.Core.Path.{_≡_};
 ghost use mathlib.Core.Bool.{true};
 ghost use Prim.Native.Nat.{_<_, _≤_, min};
 ghost use lib.ListN.{length, set};
 ghost use Rattle.quantity.specs.Ranges.{inRange, mostOf};
-ghost use Rattle.shaper.specs.ExactTime.{bitTime};
+ghost use Rattle.records.specs.ExactTime.{bitTime};
 ghost use Rattle.places.specs.Queue.{classes, lists};
 ghost use Rattle.classes.specs.Soundness.{allSound};
 ghost use Rattle.firsts.specs.Firsts.{firstOf};
@@ -236,7 +236,7 @@ fn hand_on(group: Group, place: u32, octets: u16, time: Ticks) -> Handed
         entry: Entry {
             handle: place,
             time,
-            bits: shaper::charge(octets, ORDINARY_OVERHEAD),
+            bits: quantity::charge(octets, ORDINARY_OVERHEAD),
         },
     }
 }
@@ -267,8 +267,8 @@ fn settle(
             }
             0
         }
-        Answer::Discarded(_) => shaper::answer_number(answer),
-        Answer::Refused(_) => shaper::answer_number(answer),
+        Answer::Discarded(_) => records::answer_number(answer),
+        Answer::Refused(_) => records::answer_number(answer),
     }
 }
 
@@ -392,13 +392,13 @@ fn run_events(
             }
             Step::Arrival => {
                 let id = ids[next];
-                let at = bridge::stream_place(id);
+                let at = calls::stream_place(id);
                 let stream = streams[at];
-                let of = bridge::group_place(stream.group);
+                let of = calls::group_place(stream.group);
                 let group = groups[of];
                 let length = octets[next];
                 let arrival = arrivals[next];
-                let judged = bridge::judge_at(id, stream, group, length, Ticks(arrival));
+                let judged = calls::judge_at(id, stream, group, length, Ticks(arrival));
                 let stream_after = judged.stream;
                 let group_after = judged.group;
                 let answer = judged.answer;

@@ -11,19 +11,21 @@ use Rattle.quantity.specs.Ranges.{inRange}
 use Rattle.quantity.specs.declared.Item.the-variants.{GroupId, StreamId}
 use Rattle.quantity.specs.declared.Refusal.{Refusal}
 use Rattle.quantity.proofs.Ranges.{within}
-use Rattle.shaper.specs.Frame.{burstOf, afterRelease, eligibilityTime, discarded, released, settled, processFrame, ticks}
-use Rattle.shaper.specs.Sound.{sound}
-use Rattle.shaper.specs.SetUp.{freshGroup, freshStream}
-use Rattle.shaper.specs.Numbers.{isSetUp, charged}
-use Rattle.shaper.specs.declared.Group.{Group}
-use Rattle.shaper.specs.declared.Stream.{Stream}
-use Rattle.shaper.specs.declared.Regulator.{Regulator}
-use Rattle.shaper.specs.declared.Regulator.the-variants.{Unset, Bucket}
+use Rattle.shaper.specs.Frame.{burstOf, afterRelease, eligibilityTime, discarded, released, settled, processFrame}
+use Rattle.records.specs.ExactTime.{ticks}
+use Rattle.records.specs.Sound.{sound}
+use Rattle.records.specs.SetUp.{freshGroup, freshStream}
+use Rattle.records.specs.Numbers.{isSetUp}
+use Rattle.quantity.specs.Charge.{charged}
+use Rattle.records.specs.declared.Group.{Group}
+use Rattle.records.specs.declared.Stream.{Stream}
+use Rattle.records.specs.declared.Regulator.{Regulator}
+use Rattle.records.specs.declared.Regulator.the-variants.{Unset, Bucket}
 use Rattle.shaper.specs.declared.Judged.{Judged}
-use Rattle.shaper.specs.declared.Answer.{Answer}
-use Rattle.shaper.specs.declared.Answer.the-variants.{Released, Discarded}
+use Rattle.records.specs.declared.Answer.{Answer}
+use Rattle.records.specs.declared.Answer.the-variants.{Released, Discarded}
 use Rattle.shaper.proofs.Judging.{Passes, too-late, in-time}
-use Rattle.shaper.proofs.Soundness.{SoundOk, sound-ok}
+use Rattle.records.proofs.Soundness.{SoundOk, sound-ok}
 use Rattle.bridge.specs.Tables.{groupAt, streamAt, withGroup, withStream}
 use Rattle.bridge.specs.Calls.{groupCalled, streamCalled, frameStored, frameCalled}
 use Rattle.bridge.specs.History.{Call, group, stream, frame, afterCall, Frame, Outcome, outcomeOf, outcome, burstAt, rateAt}

@@ -9,12 +9,13 @@ use lib.Dec.{ltb}
 use Rattle.quantity.specs.Numbers.{numberOf}
 use Rattle.quantity.specs.declared.Refusal.the-variants.{Unsound}
 use Rattle.shaper.specs.Frame.{eligibilityTime, discarded, released, settled, processFrame}
-use Rattle.shaper.specs.Numbers.{charged, answerNumber, answerValues}
-use Rattle.shaper.specs.declared.Group.{Group}
-use Rattle.shaper.specs.declared.Stream.{Stream}
+use Rattle.quantity.specs.Charge.{charged}
+use Rattle.records.specs.Numbers.{answerNumber, answerValues}
+use Rattle.records.specs.declared.Group.{Group}
+use Rattle.records.specs.declared.Stream.{Stream}
 use Rattle.bridge.specs.Tables.{freshBridge, groupAt, streamAt}
 use Rattle.bridge.specs.Calls.{frameStored}
-use Rattle.bridge.specs.Numbers.{setUpNumber}
+use Rattle.calls.specs.Numbers.{setUpNumber}
 use Rattle.bridge.specs.History.{Call, group, stream, frame, reply, replies, afterCall}
 use Rattle.bridge.specs.declared.Bridge.{Bridge}
 use Rattle.bridge.specs.declared.BridgeSetUp.{BridgeSetUp}

@@ -5,7 +5,7 @@ use mathlib.Core.List.{List, [], _∷_, _++_}
 use Prim.Native.Nat.{ℕ, _+_, _*_, _≤_}
 use native.Mathlib.Decide.{ℕ-discrete}
 use native.Mathlib.Omega.{arith}
-use Rattle.shaper.specs.Numbers.{isSetUp}
+use Rattle.records.specs.Numbers.{isSetUp}
 use Rattle.bridge.specs.Tables.{freshBridge, groupAt, streamAt}
 use Rattle.bridge.specs.History.{Call, group, stream, frame, afterCall, after, bridgeAfter, history, Frame, Outcome, released, discarded, frameOf, outcome, outcomes, Sent, eligible, arriving, bitsIn, WithinBurstAndRate, burstAt, rateAt}
 use Rattle.bridge.specs.declared.Bridge.{Bridge}

@@ -9,10 +9,10 @@ use lib.Dec.{eqb}
 use borrow.Author.Tests.{eq-eqb, ne-eqb}
 use Rattle.quantity.specs.Ranges.{inRange}
 use Rattle.quantity.specs.declared.Item.the-variants.{GroupId}
-use Rattle.shaper.specs.SetUp.{freshGroup, freshStream}
-use Rattle.shaper.specs.Numbers.{charged}
-use Rattle.shaper.specs.declared.Group.{Group}
-use Rattle.shaper.specs.declared.Stream.{Stream}
+use Rattle.records.specs.SetUp.{freshGroup, freshStream}
+use Rattle.quantity.specs.Charge.{charged}
+use Rattle.records.specs.declared.Group.{Group}
+use Rattle.records.specs.declared.Stream.{Stream}
 use Rattle.bridge.specs.Tables.{noGroup, freshBridge, groupAt, streamAt, withGroup, withStream}
 use Rattle.bridge.specs.History.{Call, group, stream, frame, afterCall, after, history, bridgeAfter, Outcome, released, discarded, outcome, outcomes}
 use Rattle.bridge.specs.declared.Bridge.{Bridge}

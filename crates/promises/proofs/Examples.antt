@@ -8,15 +8,17 @@ use native.Mathlib.Decide.{ℕ-discrete}
 use Rattle.quantity.specs.Ranges.{inRange}
 use Rattle.quantity.specs.Numbers.{numberOf}
 use Rattle.quantity.specs.declared.Refusal.the-variants.{Unsound}
-use Rattle.shaper.specs.Charge.{chargedBits}
-use Rattle.shaper.specs.ExactTime.{exactly, momentOf, roundedUp}
-use Rattle.shaper.specs.Frame.{burstOf, E-first, S, F, E-after, earliest, afterRelease, eligibilityTime, discarded, released, settled, processFrame}
-use Rattle.shaper.specs.Sound.{soundGroup, soundRegulator, sound}
-use Rattle.shaper.specs.SetUp.{freshGroup, freshStream, groupSetUp, streamSetUp}
-use Rattle.shaper.specs.Numbers.{isSetUp, aboveBurst, judged, answerNumber, answerValues}
+use Rattle.quantity.specs.Charge.{chargedBits}
+use Rattle.records.specs.ExactTime.{exactly, momentOf, roundedUp, E-first}
+use Rattle.shaper.specs.Frame.{burstOf, S, F, E-after, earliest, afterRelease, eligibilityTime, discarded, released, settled, processFrame}
+use Rattle.records.specs.Sound.{soundGroup, soundRegulator, sound}
+use Rattle.records.specs.SetUp.{freshGroup, freshStream, groupSetUp, streamSetUp}
+use Rattle.records.specs.Numbers.{isSetUp, answerNumber, answerValues}
+use Rattle.shaper.specs.Numbers.{aboveBurst, judged}
 use Rattle.bridge.specs.Tables.{freshBridge, groupAt, streamAt, withGroup, withStream}
-use Rattle.bridge.specs.Calls.{groupTaken, groupPlaced, streamTaken, streamPlaced, judgedAt, groupStored, groupCalled, streamStored, streamCalled, frameStored, frameCalled}
-use Rattle.bridge.specs.Numbers.{setUpNumber}
+use Rattle.calls.specs.Calls.{groupTaken, groupPlaced, streamTaken, streamPlaced, judgedAt}
+use Rattle.bridge.specs.Calls.{groupStored, groupCalled, streamStored, streamCalled, frameStored, frameCalled}
+use Rattle.calls.specs.Numbers.{setUpNumber}
 use Rattle.bridge.specs.History.{Call, group, stream, frame, afterCall, after, outcomeOf, outcome, outcomes, history, bridgeAfter, Sent, arriving, bitsIn, WithinBurstAndRate, burstAt, rateAt, reply}
 use Rattle.bridge.specs.declared.Bridge.{Bridge}
 use Rattle.promises.specs.Demand3.{Conforms, EligibleOnArrival, EachOf, ConformingArrivals}

@@ -11,14 +11,16 @@ use Rattle.quantity.specs.Ranges.{inRange}
 use Rattle.quantity.specs.declared.Item.the-variants.{GroupId, StreamId, StreamRate}
 use Rattle.quantity.proofs.Ranges.{at-least}
 use Rattle.shaper.specs.Frame.{burstOf, afterRelease, eligibilityTime}
-use Rattle.shaper.specs.SetUp.{freshGroup, freshStream}
-use Rattle.shaper.specs.Numbers.{isSetUp, aboveBurst, charged}
-use Rattle.shaper.specs.declared.Group.{Group}
-use Rattle.shaper.specs.declared.Stream.{Stream}
-use Rattle.shaper.specs.declared.Regulator.{Regulator}
-use Rattle.shaper.specs.declared.Regulator.the-variants.{Unset, Bucket}
+use Rattle.records.specs.SetUp.{freshGroup, freshStream}
+use Rattle.records.specs.Numbers.{isSetUp}
+use Rattle.shaper.specs.Numbers.{aboveBurst}
+use Rattle.quantity.specs.Charge.{charged}
+use Rattle.records.specs.declared.Group.{Group}
+use Rattle.records.specs.declared.Stream.{Stream}
+use Rattle.records.specs.declared.Regulator.{Regulator}
+use Rattle.records.specs.declared.Regulator.the-variants.{Unset, Bucket}
 use Rattle.shaper.proofs.Judging.{Passes}
-use Rattle.shaper.proofs.Soundness.{SoundOk, sound-ok}
+use Rattle.records.proofs.Soundness.{SoundOk, sound-ok}
 use Rattle.shaper.proofs.Natural.{X, T-late, T-least, X-after, X-fresh}
 use Rattle.bridge.specs.Tables.{noGroup, noStream, freshBridge, groupAt, streamAt, withGroup, withStream}
 use Rattle.bridge.specs.History.{Call, group, stream, frame, afterCall, after, Frame, Outcome, released, discarded, frameOf, outcome, outcomes, burstAt, rateAt}

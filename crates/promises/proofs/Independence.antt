@@ -12,13 +12,15 @@ use Rattle.quantity.specs.Ranges.{inRange}
 use Rattle.quantity.specs.declared.Item.the-variants.{GroupId, StreamId}
 use Rattle.quantity.specs.declared.Refusal.the-variants.{NoStream}
 use Rattle.shaper.specs.Frame.{eligibilityTime}
-use Rattle.shaper.specs.SetUp.{freshGroup, freshStream}
-use Rattle.shaper.specs.Numbers.{isSetUp, charged, answerNumber, answerValues}
-use Rattle.shaper.specs.declared.Group.{Group}
-use Rattle.shaper.specs.declared.Stream.{Stream}
-use Rattle.shaper.specs.declared.Answer.{Answer}
+use Rattle.records.specs.SetUp.{freshGroup, freshStream}
+use Rattle.records.specs.Numbers.{isSetUp, answerNumber, answerValues}
+use Rattle.quantity.specs.Charge.{charged}
+use Rattle.records.specs.declared.Group.{Group}
+use Rattle.records.specs.declared.Stream.{Stream}
+use Rattle.records.specs.declared.Answer.{Answer}
 use Rattle.bridge.specs.Tables.{noGroup, noStream, freshBridge, groupAt, streamAt, withGroup, withStream}
-use Rattle.bridge.specs.Calls.{groupCalled, streamCalled, judgedAt, frameStored, frameCalled}
+use Rattle.bridge.specs.Calls.{groupCalled, streamCalled, frameStored, frameCalled}
+use Rattle.calls.specs.Calls.{judgedAt}
 use Rattle.bridge.specs.History.{Call, group, stream, frame, Reply, reply, afterCall, after, bridgeAfter, Frame, Outcome, released, discarded, outcomeOf, outcome}
 use Rattle.bridge.specs.declared.Bridge.{Bridge}
 use Rattle.bridge.specs.declared.BridgeSetUp.{BridgeSetUp}

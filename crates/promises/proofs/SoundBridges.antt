@@ -12,19 +12,20 @@ use Rattle.quantity.specs.Numbers.{numberOf}
 use Rattle.quantity.specs.declared.Item.the-variants.{GroupId, StreamId}
 use Rattle.quantity.specs.declared.Refusal.the-variants.{Unsound}
 use Rattle.shaper.specs.Frame.{eligibilityTime, discarded, released, settled, processFrame}
-use Rattle.shaper.specs.Sound.{sound, soundGroup}
-use Rattle.shaper.specs.SetUp.{freshGroup, freshStream}
-use Rattle.shaper.specs.Numbers.{isSetUp, charged, answerNumber}
-use Rattle.shaper.specs.declared.Group.{Group}
-use Rattle.shaper.specs.declared.Stream.{Stream}
+use Rattle.records.specs.Sound.{sound, soundGroup}
+use Rattle.records.specs.SetUp.{freshGroup, freshStream}
+use Rattle.records.specs.Numbers.{isSetUp, answerNumber}
+use Rattle.quantity.specs.Charge.{charged}
+use Rattle.records.specs.declared.Group.{Group}
+use Rattle.records.specs.declared.Stream.{Stream}
 use Rattle.shaper.specs.declared.Judged.{Judged}
 use Rattle.shaper.proofs.Judging.{Passes, too-late, in-time}
-use Rattle.shaper.proofs.Soundness.{sound-ok, group-sound}
-use Rattle.shaper.proofs.Fresh.{fresh-group-sound, fresh-stream-sound}
+use Rattle.records.proofs.Soundness.{sound-ok, group-sound}
+use Rattle.records.proofs.Fresh.{fresh-group-sound, fresh-stream-sound}
 use Rattle.shaper.proofs.Natural.{T-late, frame-kept, beside}
 use Rattle.bridge.specs.Tables.{noGroup, noStream, freshBridge, groupAt, streamAt, withGroup, withStream}
 use Rattle.bridge.specs.Calls.{groupCalled, streamCalled, frameStored, frameCalled}
-use Rattle.bridge.specs.Numbers.{setUpNumber}
+use Rattle.calls.specs.Numbers.{setUpNumber}
 use Rattle.bridge.specs.History.{Call, group, stream, frame, afterCall, after, Reply, reply, replies}
 use Rattle.bridge.specs.declared.Bridge.{Bridge}
 use Rattle.bridge.specs.declared.BridgeSetUp.{BridgeSetUp}

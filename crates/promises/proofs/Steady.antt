@@ -8,14 +8,15 @@ use Rattle.quantity.specs.Ranges.{inRange}
 use Rattle.quantity.specs.declared.Item.the-variants.{GroupId, StreamId}
 use Rattle.quantity.proofs.Ranges.{within}
 use Rattle.shaper.specs.Frame.{burstOf, afterRelease}
-use Rattle.shaper.specs.SetUp.{freshGroup, freshStream}
-use Rattle.shaper.specs.Numbers.{isSetUp, charged}
-use Rattle.shaper.specs.declared.Group.{Group}
-use Rattle.shaper.specs.declared.Stream.{Stream}
-use Rattle.shaper.specs.declared.Regulator.{Regulator}
-use Rattle.shaper.specs.declared.Regulator.the-variants.{Unset, Bucket}
+use Rattle.records.specs.SetUp.{freshGroup, freshStream}
+use Rattle.records.specs.Numbers.{isSetUp}
+use Rattle.quantity.specs.Charge.{charged}
+use Rattle.records.specs.declared.Group.{Group}
+use Rattle.records.specs.declared.Stream.{Stream}
+use Rattle.records.specs.declared.Regulator.{Regulator}
+use Rattle.records.specs.declared.Regulator.the-variants.{Unset, Bucket}
 use Rattle.shaper.proofs.Judging.{Passes}
-use Rattle.shaper.proofs.Soundness.{sound-ok}
+use Rattle.records.proofs.Soundness.{sound-ok}
 use Rattle.bridge.specs.Tables.{groupAt, streamAt, withGroup, withStream}
 use Rattle.bridge.specs.History.{Call, group, stream, frame, afterCall, after}
 use Rattle.bridge.specs.declared.Bridge.{Bridge}

@@ -6,8 +6,8 @@ use mathlib.Core.Bool.{true}
 use mathlib.Core.List.{List, [], _∷_}
 use Rattle.quantity.specs.Numbers.{numberOf}
 use Rattle.quantity.specs.declared.Refusal.the-variants.{Unsound}
-use Rattle.shaper.specs.Sound.{sound, soundGroup}
-use Rattle.shaper.specs.Numbers.{isSetUp}
+use Rattle.records.specs.Sound.{sound, soundGroup}
+use Rattle.records.specs.Numbers.{isSetUp}
 use Rattle.bridge.specs.Tables.{freshBridge, groupAt, streamAt}
 use Rattle.bridge.specs.History.{Call, Reply, reply, replies, afterCall, bridgeAfter}
 use Rattle.bridge.specs.declared.Bridge.{Bridge}

@@ -6,8 +6,8 @@ use mathlib.Core.List.{List, [], _∷_}
 use mathlib.Core.Logic.{_⊎_}
 use Rattle.quantity.specs.declared.Refusal.{Refusal}
 use Rattle.shaper.specs.Frame.{processFrame}
-use Rattle.shaper.specs.Numbers.{charged}
-use Rattle.shaper.specs.declared.Answer.{Answer}
+use Rattle.quantity.specs.Charge.{charged}
+use Rattle.records.specs.declared.Answer.{Answer}
 use Rattle.bridge.specs.Tables.{freshBridge, groupAt, streamAt}
 use Rattle.bridge.specs.Calls.{frameStored, frameCalled}
 use Rattle.bridge.specs.History.{Call, group, stream, frame, afterCall}

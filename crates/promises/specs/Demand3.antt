@@ -4,7 +4,7 @@ use Prim.Native.Nat.{ℕ}
 use mathlib.Core.Path.{_≡_}
 use mathlib.Core.Bool.{true}
 use mathlib.Core.List.{List, [], _∷_}
-use Rattle.shaper.specs.Numbers.{isSetUp}
+use Rattle.records.specs.Numbers.{isSetUp}
 use Rattle.bridge.specs.Tables.{streamAt}
 use Rattle.bridge.specs.History.{Call, history, bridgeAfter, Outcome, released, discarded, frameOf, burstAt, rateAt, eligible, arriving, WithinBurstAndRate}
 

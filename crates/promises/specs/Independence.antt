@@ -5,7 +5,7 @@ use mathlib.Core.Path.{_≡_}
 use mathlib.Core.Bool.{Bool, false, not, cond, _&&_}
 use mathlib.Core.List.{List, [], _∷_}
 use lib.Dec.{eqb}
-use Rattle.shaper.specs.Numbers.{isSetUp}
+use Rattle.records.specs.Numbers.{isSetUp}
 use Rattle.bridge.specs.Tables.{freshBridge, groupAt, streamAt}
 use Rattle.bridge.specs.History.{Call, group, stream, frame, Reply, reply, afterCall, bridgeAfter}
 use Rattle.bridge.specs.declared.Bridge.{Bridge}

@@ -1,8 +1,9 @@
 // The ground that every other crate stands on: ticks, bits and rates as distinct kinds of quantity, the ranges of
-// document 01 by name, and the names of the refusals with their numbers.
+// document 01 by name, the charged bits of a frame, and the names of the refusals with their numbers.
 // No record, no queue and no rule of judging lives here.
 ghost use mathlib.Core.Path.{_≡_};
 ghost use Rattle.quantity.specs.Ranges.{leastOf, mostOf, inRange};
+ghost use Rattle.quantity.specs.Charge.{chargedBits};
 ghost use Rattle.quantity.specs.Numbers.{numberOf};
 
 // Whole nanoseconds.
@@ -35,6 +36,9 @@ pub enum Item {
     // Places of a run's input lists.
     ListPlaces,
 }
+
+// What a line adds to each frame, in octets: preamble, start mark and gap.
+pub const ORDINARY_OVERHEAD: u8 = 20;
 
 pub const MOST_STREAM_ID: u64 = 63;
 
@@ -190,4 +194,11 @@ pub fn refusal_number(refusal: Refusal) -> u8
         Refusal::ListsUnfit => 28,
         Refusal::LineUnfit => 29,
     }
+}
+
+// The charged bits of a frame on a line that adds so many octets to each.
+pub fn charge(octets: u16, overhead: u8) -> Bits
+    ensures { λ r. ⌜ r .0 ≡ chargedBits overhead octets ⌝ }
+{
+    Bits(8 * ((octets as u64) + (overhead as u64)))
 }

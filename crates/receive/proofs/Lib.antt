@@ -1,7 +1,2 @@
-pub mod InPlaceLaws
-pub mod WideNumbers
-pub mod LentRecords
-pub mod Walking
-pub mod Freeing
 pub mod Locals
 pub mod Promises

@@ -23,12 +23,12 @@ use denote.Index.{row, whole-in, whole-out}
 use denote.Memory.{cellAt, partAt, partOf, mem, shares}
 use denote.Steps.{only, owned, peeks}
 use denote.Struct.Laws as LL
-use Rattle.shaper.specs.declared.Group.{Group}
-use Rattle.shaper.specs.declared.Stream.{Stream}
-use Rattle.shaper.proofs.Group as G
-use Rattle.shaper.proofs.Group.Laws as G′
-use Rattle.shaper.proofs.Stream as S
-use Rattle.shaper.proofs.Stream.Laws as S′
+use Rattle.records.specs.declared.Group.{Group}
+use Rattle.records.specs.declared.Stream.{Stream}
+use Rattle.records.proofs.Group as G
+use Rattle.records.proofs.Group.Laws as G′
+use Rattle.records.proofs.Stream as S
+use Rattle.records.proofs.Stream.Laws as S′
 
 abbrev pub g-val : Group → Val
 g-val = LL.val G.the-type G′.the-laws

@@ -1,71 +1,37 @@
 -- The promises of specs/Promises, proved. Assumes nothing.
 use mathlib.Core.Path.{_≡_, refl, sym, ap, _∙_}
-use mathlib.Core.Bool.{Bool, true, false, not, cond}
-use mathlib.Core.List.{List, map}
-use mathlib.Core.Logic.{_⊎_, inl, inr}
-use Prim.Native.Nat.{ℕ, _≤_, _<_}
+use mathlib.Core.Bool.{Bool, true, false}
+use mathlib.Core.Logic.{inl, inr}
+use Prim.Native.Nat.{ℕ}
 use native.Mathlib.Omega.{arith}
 use lib.Dec.{eqb}
 use lib.ListN.{length, getD, set, length-set}
 use lib.Seq.{getD-set-other, set-getD}
 use borrow.Author.Tests.{eq-eqb}
 use Rattle.quantity.specs.Ranges.{inRange}
-use Rattle.quantity.specs.Numbers.{numberOf}
-use Rattle.quantity.specs.declared.Item.the-variants.{GroupId, StreamId}
+use Rattle.quantity.specs.declared.Item.the-variants.{StreamId}
 use Rattle.quantity.specs.declared.Refusal.{Refusal}
-use Rattle.quantity.specs.declared.Refusal.the-variants.{Unsound, NoStream, IdRange, SetUpBefore}
-use Rattle.shaper.specs.Frame.{processFrame, eligibilityTime, discarded, released}
-use Rattle.shaper.specs.Numbers.{isSetUp, judged, refused, charged, answerNumber}
-use Rattle.shaper.specs.SetUp.{groupSetUp, streamSetUp}
-use Rattle.shaper.specs.declared.Answer.the-variants.{Refused}
-use Rattle.shaper.specs.declared.Group.{Group}
-use Rattle.shaper.specs.declared.Stream.{Stream}
+use Rattle.quantity.specs.declared.Refusal.the-variants.{NoStream}
+use Rattle.records.specs.Numbers.{isSetUp}
+use Rattle.shaper.specs.Numbers.{judged, refused}
+use Rattle.records.specs.declared.Answer.the-variants.{Refused}
+use Rattle.records.specs.declared.Stream.{Stream}
 use Rattle.shaper.specs.declared.Judged.{Judged}
-use Rattle.shaper.specs.declared.GroupSetUp.{GroupSetUp}
-use Rattle.shaper.specs.declared.GroupSetUp.the-variants as group
-use Rattle.shaper.specs.declared.StreamSetUp.{StreamSetUp}
-use Rattle.shaper.specs.declared.StreamSetUp.the-variants as stream
+use Rattle.records.specs.declared.GroupSetUp.the-variants as group
+use Rattle.records.specs.declared.StreamSetUp.the-variants as stream
 use Rattle.shaper.proofs.Judging.{not-set-up}
 use Rattle.bridge.specs.Tables.{noGroup, noStream, groupAt, streamAt, withGroup, withStream}
-use Rattle.bridge.specs.Calls.{groupTaken, groupPlaced, streamTaken, streamPlaced, judgedAt, frameStored, frameCalled}
-use Rattle.bridge.specs.Numbers.{setUpNumber}
+use Rattle.calls.specs.Calls.{judgedAt}
+use Rattle.bridge.specs.Calls.{frameStored, frameCalled}
 use Rattle.bridge.specs.declared.Bridge.{Bridge}
 use Rattle.bridge.specs.declared.Framed.{Framed}
-use Rattle.bridge.specs.declared.SetUp.{SetUp}
-use Rattle.bridge.proofs.Places.{same-group as same-groups, same-stream as same-table, frame-id-out, frame-id-in}
-use Rattle.receive.specs.InPlace.{runPlaces, judgedIn, stays, stored, received}
-use Rattle.receive.specs.Steps.{ready, unreadiness}
-use Rattle.receive.specs.Firmware.{groupOf, groupRecord, streamOf, streamRecords, timeAfter, groupTold, streamTold, lentAfter, frameReceived}
-use Rattle.receive.specs.Promises.{putBack, SameAsFrameCall, OthersStay, RunKeepsItsLength, RefusedStays, RefusedStaysForC, RefusedGroupStays, RefusedStreamStays}
-use Rattle.receive.specs.declared.Received.{Received}
-use Rattle.receive.specs.declared.firmware.GroupRecord.{GroupRecord}
-use Rattle.receive.specs.declared.firmware.StreamRecord.{StreamRecord}
-use Rattle.receive.proofs.InPlaceLaws.{then-stream, is-stored, is-unready, unset, at-home, Outcome, outcome, settles}
-use Rattle.receive.proofs.LentRecords.{same-group, same-stream, same-streams}
-
--- ---- a frame is refused, and the lent records stay, or its number is below 9
-abbrev Ended : Received → Group → List Stream → Type 0
-Ended r g ss = ((why : Refusal) × (r ≡ stays g ss why)) ⊎ (answerNumber (r .answer) < numberOf Unsound)
-
-module _ (i : ℕ) (g : Group) (ss : List Stream) (k n A : ℕ) where
-  abbrev s : Stream
-  s = getD ss k noStream
-
-  -- a refused record is stored where it stood
-  put-back : (why : Refusal) (j : Judged) → j ≡ refused s g why → stored ss k j ≡ stays g ss why
-  put-back why j e = ap (stored ss k) e ∙ ap (λ (xs : List Stream). record { answer = Refused why; group = g; streams = xs }) (set-getD ss k noStream)
-
-  judged-ended : Outcome i s g n A → Ended (stored ss k (judgedIn i s g n A)) g ss
-  unfolding processFrame discarded released answerNumber
-  judged-ended (inl w) = inl (w .0, put-back (w .0) _ (w .1))
-  judged-ended (inr p) = inr (rw (p .1) (settles (λ j. answerNumber (j .answer) < numberOf Unsound) s g (charged n) A (eligibilityTime s g (charged n) A) (omega arith) (omega arith)))
-
-  ended : Ended (received i g ss k n A) g ss
-  ended = go (ready (length ss) k) refl
-    where
-      go : (t : Bool) → ready (length ss) k ≡ t → Ended (received i g ss k n A) g ss
-      go true e = rw (is-stored i g ss k n A e) (judged-ended (outcome i s g n A))
-      go false e = inl (unreadiness (length ss), is-unready i g ss k n A e)
+use Rattle.bridge.proofs.Tables.{same-group as same-groups, same-stream as same-table}
+use Rattle.calls.proofs.Places.{frame-id-out, frame-id-in}
+use Rattle.lent.specs.InPlace.{runPlaces, judgedIn, stays, stored, received}
+use Rattle.lent.specs.Steps.{ready}
+use Rattle.receive.specs.Promises.{putBack, SameAsFrameCall, OthersStay, RunKeepsItsLength, RefusedStays}
+use Rattle.lent.specs.declared.Received.{Received}
+use Rattle.lent.proofs.InPlaceLaws.{put-back, Ended, ended, then-stream, is-stored, is-unready, unset, at-home}
 
 pub refused-stays : RefusedStays
 unfolding RefusedStays
@@ -73,17 +39,6 @@ refused-stays i g ss k n A low = go (ended i g ss k n A)
   where
     go : Ended (received i g ss k n A) g ss → (received i g ss k n A .group ≡ g) × (received i g ss k n A .streams ≡ ss)
     go (inl w) = (ap (λ (r : Received). r .group) (w .1), ap (λ (r : Received). r .streams) (w .1))
-    go (inr h) = absurd (omega (arith, h, low))
-
-pub refused-stays-for-C : RefusedStaysForC
-unfolding RefusedStaysForC frameReceived lentAfter timeAfter
-refused-stays-for-C i g ss k n A t low = go (ended i (groupOf g) (map streamOf ss) k n A)
-  where
-    R : Received
-    R = received i (groupOf g) (map streamOf ss) k n A
-
-    go : Ended R (groupOf g) (map streamOf ss) → (timeAfter (R .answer) t ≡ t) × (groupRecord (R .group) ≡ g) × (streamRecords ss (R .streams) ≡ ss)
-    go (inl w) = (ap (λ (r : Received). timeAfter (r .answer) t) (w .1), ap (λ (r : Received). groupRecord (r .group)) (w .1) ∙ same-group g, ap (λ (r : Received). streamRecords ss (r .streams)) (w .1) ∙ same-streams ss)
     go (inr h) = absurd (omega (arith, h, low))
 
 -- ---- of the run only the frame's own record changes
@@ -153,28 +108,3 @@ module _ (b : Bridge) (i k n A : ℕ) (long : length (b .streams) ≡ runPlaces)
 pub same-as-frame-call : SameAsFrameCall
 unfolding SameAsFrameCall
 same-as-frame-call b i k n A long of-group = same b i k n A long of-group
-
--- ---- the set-ups that C calls
-module _ (g : GroupRecord) where
-  refused-group : (x y : Bool) (p : GroupSetUp) → numberOf Unsound ≤ groupTold (cond (not x) (record { answer = SetUp.Refused IdRange; group = groupOf g }) (cond y (record { answer = SetUp.Refused SetUpBefore; group = groupOf g }) (groupTaken (groupOf g) p))) .number → groupTold (cond (not x) (record { answer = SetUp.Refused IdRange; group = groupOf g }) (cond y (record { answer = SetUp.Refused SetUpBefore; group = groupOf g }) (groupTaken (groupOf g) p))) .group ≡ g
-  unfolding groupTold groupTaken setUpNumber
-  refused-group false y p low = same-group g
-  refused-group true true p low = same-group g
-  refused-group true false (group.Done new) low = absurd (omega (arith, low))
-  refused-group true false (group.Refused why) low = same-group g
-
-pub refused-group-stays : RefusedGroupStays
-unfolding RefusedGroupStays groupPlaced
-refused-group-stays i g c M = refused-group g (inRange GroupId i) (groupOf g .used) (groupSetUp c M)
-
-module _ (s : StreamRecord) where
-  refused-stream : (x y : Bool) (p : StreamSetUp) → numberOf Unsound ≤ streamTold s (cond (not x) (record { answer = SetUp.Refused IdRange; stream = streamOf s }) (cond y (record { answer = SetUp.Refused SetUpBefore; stream = streamOf s }) (streamTaken (streamOf s) p))) .number → streamTold s (cond (not x) (record { answer = SetUp.Refused IdRange; stream = streamOf s }) (cond y (record { answer = SetUp.Refused SetUpBefore; stream = streamOf s }) (streamTaken (streamOf s) p))) .stream ≡ s
-  unfolding streamTold streamTaken setUpNumber
-  refused-stream false y p low = same-stream s
-  refused-stream true true p low = same-stream s
-  refused-stream true false (stream.Done new) low = absurd (omega (arith, low))
-  refused-stream true false (stream.Refused why) low = same-stream s
-
-pub refused-stream-stays : RefusedStreamStays
-unfolding RefusedStreamStays streamPlaced
-refused-stream-stays i s k g r u = refused-stream s (inRange StreamId i) (isSetUp (streamOf s .regulator)) (streamSetUp k (groupOf g) r u)

@@ -1,4 +1,1 @@
-pub mod InPlace
-pub mod Firmware
-pub mod Steps
 pub mod Promises

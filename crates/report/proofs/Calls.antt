@@ -3,20 +3,21 @@ use mathlib.Core.Path.{_≡_, refl, ap, _∙_}
 use mathlib.Core.List.{List, []}
 use Prim.Native.Nat.{ℕ}
 use lib.ListN.{getD, set}
-use Rattle.shaper.specs.Numbers.{answerNumber, answerValues}
-use Rattle.shaper.specs.declared.Answer.{Answer}
-use Rattle.shaper.specs.declared.Answer.the-variants.{Released, Discarded, Refused}
+use Rattle.records.specs.Numbers.{answerNumber, answerValues}
+use Rattle.records.specs.declared.Answer.{Answer}
+use Rattle.records.specs.declared.Answer.the-variants.{Released, Discarded, Refused}
 use Rattle.shaper.specs.declared.Judged.{Judged}
-use Rattle.bridge.specs.Tables.{noGroup, noStream, groupPlace, streamPlace}
-use Rattle.bridge.specs.Calls.{groupPlaced, streamPlaced, judgedAt}
-use Rattle.bridge.specs.Numbers.{setUpNumber}
+use Rattle.bridge.specs.Tables.{noGroup, noStream}
+use Rattle.calls.specs.Places.{groupPlace, streamPlace}
+use Rattle.calls.specs.Calls.{groupPlaced, streamPlaced, judgedAt}
+use Rattle.calls.specs.Numbers.{setUpNumber}
 use Rattle.bridge.specs.History.{group, stream, frame, Reply, reply, afterCall}
 use Rattle.bridge.specs.declared.Bridge.{Bridge}
-use Rattle.bridge.specs.declared.PlacedGroup.{PlacedGroup}
-use Rattle.bridge.specs.declared.PlacedStream.{PlacedStream}
+use Rattle.calls.specs.declared.PlacedGroup.{PlacedGroup}
+use Rattle.calls.specs.declared.PlacedStream.{PlacedStream}
 use Rattle.bridge.specs.declared.BridgeSetUp.{BridgeSetUp}
 use Rattle.bridge.specs.declared.Framed.{Framed}
-use Rattle.bridge.proofs.Places.{group-call, stream-call, frame-call}
+use Rattle.bridge.proofs.Tables.{group-call, stream-call, frame-call}
 use Rattle.report.specs.Steps.{valuesOf, replyOf, setUpAnswer, shownOf, frameAnswer}
 use Rattle.report.specs.declared.Answered.{Answered}
 

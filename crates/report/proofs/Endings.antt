@@ -16,12 +16,12 @@ use Rattle.text.specs.Places.{Placed}
 use Rattle.reader.specs.Answers.{readingNumber}
 use Rattle.reader.specs.declared.Reading.{Reading}
 use Rattle.reader.specs.declared.Reading.the-variants.{Found, NothingLeft, Refused}
-use Rattle.shaper.specs.Numbers.{answerNumber}
-use Rattle.shaper.specs.declared.Answer.{Answer}
-use Rattle.shaper.specs.declared.Answer.the-variants as answer
-use Rattle.bridge.specs.Numbers.{setUpNumber}
-use Rattle.bridge.specs.declared.SetUp.{SetUp}
-use Rattle.bridge.specs.declared.SetUp.the-variants as set-up
+use Rattle.records.specs.Numbers.{answerNumber}
+use Rattle.records.specs.declared.Answer.{Answer}
+use Rattle.records.specs.declared.Answer.the-variants as answer
+use Rattle.calls.specs.Numbers.{setUpNumber}
+use Rattle.calls.specs.declared.SetUp.{SetUp}
+use Rattle.calls.specs.declared.SetUp.the-variants as set-up
 use Rattle.bridge.specs.History.{Reply}
 use Rattle.report.specs.Lines.{dash, lineOf}
 use Rattle.report.specs.Listing.{leastRefusal, endLine, ending}

@@ -26,9 +26,9 @@ use Rattle.reader.specs.declared.Reading.the-variants.{Found, NothingLeft, Refu
 use Rattle.reader.proofs.Marks.{none-left}
 use Rattle.tablefile.proofs.Fields.{mark-width}
 use Rattle.reader.proofs.RoundTrip.{one-at-a-time, found-in-the-whole}
-use Rattle.shaper.specs.Numbers.{answerNumber, answerValues}
-use Rattle.shaper.specs.declared.Answer.{Answer}
-use Rattle.shaper.specs.declared.Answer.the-variants as answer
+use Rattle.records.specs.Numbers.{answerNumber, answerValues}
+use Rattle.records.specs.declared.Answer.{Answer}
+use Rattle.records.specs.declared.Answer.the-variants as answer
 use Rattle.bridge.specs.Calls.{groupCalled, streamCalled, frameCalled}
 use Rattle.bridge.specs.History.{Call, group, stream, frame, Reply, reply, afterCall}
 use Rattle.bridge.specs.declared.Bridge.{Bridge}

@@ -13,8 +13,8 @@ use Rattle.tablefile.specs.declared.Record.{Record}
 use Rattle.tablefile.specs.declared.Record.the-variants as made
 use Rattle.reader.specs.declared.Reading.{Reading}
 use Rattle.reader.specs.declared.Reading.the-variants.{Found, NothingLeft, Refused}
-use Rattle.shaper.specs.Numbers.{answerNumber}
-use Rattle.shaper.specs.declared.Answer.{Answer}
+use Rattle.records.specs.Numbers.{answerNumber}
+use Rattle.records.specs.declared.Answer.{Answer}
 use Rattle.bridge.specs.History.{Call, group, stream, frame}
 use Rattle.report.specs.Lines.{callOf}
 use Rattle.report.specs.Parts.{lineRoom, mostLines, Part, mayGoOn, goingOn}

@@ -3,19 +3,21 @@
 use Prim.Native.Nat.{ℕ}
 use mathlib.Core.Path.{_≡_, refl}
 use mathlib.Core.List.{List, [], _∷_, _++_}
-use Rattle.bridge.specs.Calls.{groupCalled, groupStored, groupPlaced, groupTaken, streamCalled, streamStored, streamPlaced, streamTaken, frameCalled, frameStored, judgedAt}
+use Rattle.bridge.specs.Calls.{groupCalled, groupStored, streamCalled, streamStored, frameCalled, frameStored}
+use Rattle.calls.specs.Calls.{groupPlaced, groupTaken, streamPlaced, streamTaken, judgedAt}
 use Rattle.bridge.specs.History.{reply, afterCall}
-use Rattle.bridge.specs.Numbers.{setUpNumber}
+use Rattle.calls.specs.Numbers.{setUpNumber}
 use Rattle.bridge.specs.Tables.{groupAt, streamAt, withGroup, withStream, freshBridge}
 use Rattle.quantity.specs.Ranges.{inRange}
 use Rattle.report.specs.Lines.{recordLine, lineOf, column, callOf}
 use Rattle.report.specs.Listing.{listing, listingOf, recordLines, ending, endLine}
-use Rattle.shaper.specs.Charge.{chargedBits}
-use Rattle.shaper.specs.ExactTime.{exactly, momentOf, roundedUp}
-use Rattle.shaper.specs.Frame.{processFrame, settled, discarded, released, eligibilityTime, earliest, afterRelease, E-first, S, F, E-after}
-use Rattle.shaper.specs.Numbers.{judged, answerNumber, answerValues, aboveBurst}
-use Rattle.shaper.specs.SetUp.{groupSetUp, streamSetUp, freshStream, freshGroup}
-use Rattle.shaper.specs.Sound.{sound, soundGroup, soundRegulator}
+use Rattle.quantity.specs.Charge.{chargedBits}
+use Rattle.records.specs.ExactTime.{exactly, momentOf, roundedUp, E-first}
+use Rattle.shaper.specs.Frame.{processFrame, settled, discarded, released, eligibilityTime, earliest, afterRelease, S, F, E-after}
+use Rattle.shaper.specs.Numbers.{judged, aboveBurst}
+use Rattle.records.specs.Numbers.{answerNumber, answerValues}
+use Rattle.records.specs.SetUp.{groupSetUp, streamSetUp, freshStream, freshGroup}
+use Rattle.records.specs.Sound.{sound, soundGroup, soundRegulator}
 use Rattle.tablefile.specs.BigEndian.{number}
 use Rattle.reader.specs.File.{answers, contentsFrom, onwards}
 use Rattle.tablefile.specs.Layout.{kinds, fieldNumbers, total, size}

@@ -7,12 +7,12 @@ use mathlib.Core.List.{List, [], _∷_}
 use lib.ListN.{length, getD}
 use lib.Seq.{sets}
 use Rattle.quantity.specs.Numbers.{numberOf}
-use Rattle.shaper.specs.Numbers.{answerNumber}
-use Rattle.shaper.specs.declared.Answer.{Answer}
-use Rattle.shaper.specs.declared.Answer.the-variants as answer
+use Rattle.records.specs.Numbers.{answerNumber}
+use Rattle.records.specs.declared.Answer.{Answer}
+use Rattle.records.specs.declared.Answer.the-variants as answer
 use Rattle.bridge.specs.History.{Call, group, stream, frame, Reply}
-use Rattle.bridge.specs.Numbers.{setUpNumber}
-use Rattle.bridge.specs.declared.SetUp.{SetUp}
+use Rattle.calls.specs.Numbers.{setUpNumber}
+use Rattle.calls.specs.declared.SetUp.{SetUp}
 use Rattle.tablefile.specs.Layout.{mark, kindOf}
 use Rattle.tablefile.specs.declared.Record.{Record}
 use Rattle.reader.specs.declared.Reading.{Reading}

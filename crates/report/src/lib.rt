@@ -2,13 +2,13 @@
 // Reading a record is `reader`'s, the calls are `bridge`'s, decimal numbers are `text`'s. Input and output live with
 // the programs. The loop keeps the tables as its own arrays, so that no table is copied for a record.
 use bridge::Bridge;
-use bridge::SetUp;
+use calls::SetUp;
 use quantity::Bits;
 use quantity::Rate;
 use quantity::Refusal;
 use quantity::Ticks;
 use reader::Reading;
-use shaper::Answer;
+use records::Answer;
 use tablefile::Record;
 ghost use mathlib.Core.Path.{_≡_};
 ghost use mathlib.Core.List.{[], _∷_, _++_};
@@ -88,22 +88,16 @@ pub struct Listed {
 fn set_up_answer(answer: SetUp) -> Answered
     ensures { λ r. ⌜ r ≡ setUpAnswer answer ⌝ }
 {
-    match answer {
-        SetUp::Done => Answered {
-            number: 0,
-            time: Shown::Dash,
-        },
-        SetUp::Refused(why) => Answered {
-            number: quantity::refusal_number(why),
-            time: Shown::Dash,
-        },
+    Answered {
+        number: calls::set_up_number(answer),
+        time: Shown::Dash,
     }
 }
 
 fn frame_answer(answer: Answer) -> Answered
     ensures { λ r. ⌜ r ≡ frameAnswer answer ⌝ }
 {
-    let number = shaper::answer_number(answer);
+    let number = records::answer_number(answer);
     match answer {
         Answer::Released(time) => Answered {
             number,
@@ -280,8 +274,8 @@ pub fn list_part(bytes: &[u8], bridge: Bridge, count: u64, out: &mut [u8]) -> Li
                 residence,
                 next,
             } => {
-                let of = bridge::group_place(id);
-                let placed = bridge::place_group(id, groups[of], class, residence);
+                let of = calls::group_place(id);
+                let placed = calls::place_group(id, groups[of], class, residence);
                 let after = placed.group;
                 let outcome = placed.answer;
                 let answer = set_up_answer(outcome);
@@ -298,9 +292,9 @@ pub fn list_part(bytes: &[u8], bridge: Bridge, count: u64, out: &mut [u8]) -> Li
                 burst,
                 next,
             } => {
-                let at = bridge::stream_place(id);
-                let of = bridge::group_place(group);
-                let placed = bridge::place_stream(id, streams[at], group, groups[of], rate, burst);
+                let at = calls::stream_place(id);
+                let of = calls::group_place(group);
+                let placed = calls::place_stream(id, streams[at], group, groups[of], rate, burst);
                 let after = placed.stream;
                 let outcome = placed.answer;
                 let answer = set_up_answer(outcome);
@@ -316,10 +310,10 @@ pub fn list_part(bytes: &[u8], bridge: Bridge, count: u64, out: &mut [u8]) -> Li
                 arrival,
                 next,
             } => {
-                let at = bridge::stream_place(id);
+                let at = calls::stream_place(id);
                 let stream = streams[at];
-                let of = bridge::group_place(stream.group);
-                let judged = bridge::judge_at(id, stream, groups[of], octets, arrival);
+                let of = calls::group_place(stream.group);
+                let judged = calls::judge_at(id, stream, groups[of], octets, arrival);
                 let stream_after = judged.stream;
                 let group_after = judged.group;
                 let outcome = judged.answer;

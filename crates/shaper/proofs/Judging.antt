@@ -15,18 +15,21 @@ use Rattle.quantity.specs.declared.Bits.{Bits}
 use Rattle.quantity.specs.declared.Refusal.{Refusal}
 use Rattle.quantity.specs.declared.Refusal.the-variants.{Unsound, NoStream, LengthRange, AboveBurst, TooLate, BeforeLast}
 use Rattle.quantity.proofs.Booleans.{cond-true, cond-false}
-use Rattle.shaper.specs.ExactTime.{bitTime, tickTime, exactly, roundedUp, orZero}
+use Rattle.records.specs.ExactTime.{bitTime, tickTime, exactly, roundedUp, orZero}
 use Rattle.shaper.specs.Frame.{S, F, E-after, discarded, released, settled, processFrame}
-use Rattle.shaper.specs.Sound.{sound}
-use Rattle.shaper.specs.Numbers.{isSetUp, aboveBurst, refused, charged, judged}
-use Rattle.shaper.specs.Steps.{shortfall, tested}
-use Rattle.shaper.specs.declared.Group.{Group}
-use Rattle.shaper.specs.declared.Stream.{Stream}
+use Rattle.records.specs.Sound.{sound}
+use Rattle.records.specs.Numbers.{isSetUp}
+use Rattle.shaper.specs.Numbers.{aboveBurst, refused, judged}
+use Rattle.quantity.specs.Charge.{charged}
+use Rattle.records.specs.Steps.{shortfall}
+use Rattle.shaper.specs.Steps.{tested}
+use Rattle.records.specs.declared.Group.{Group}
+use Rattle.records.specs.declared.Stream.{Stream}
 use Rattle.shaper.specs.declared.Judged.{Judged}
 use Rattle.shaper.specs.declared.Tested.{Tested}
 use Rattle.shaper.specs.declared.Tested.the-variants.{Refused, Charged}
-use Rattle.shaper.proofs.Integers.{sum, difference, same, is-lt, is-not-lt}
-use Rattle.shaper.proofs.ExactTime.{before-first}
+use Rattle.records.proofs.Integers.{sum, difference, same, is-lt, is-not-lt}
+use Rattle.records.proofs.ExactTime.{before-first}
 
 -- ---- E after a release at T, before F and from F on
 module _ (r : ℕ) (E : ℤ) (b L T : ℕ) (full : shortfall (F E b) ≡ 0) where

@@ -1,8 +1,4 @@
-pub mod Charging
-pub mod Integers
-pub mod Machine
-pub mod ExactTime
-pub mod Soundness
+pub mod Spans
+pub mod Buckets
 pub mod Judging
-pub mod Fresh
 pub mod Natural

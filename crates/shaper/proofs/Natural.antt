@@ -13,20 +13,22 @@ use Rattle.quantity.specs.Ranges.{leastOf, mostOf}
 use Rattle.quantity.specs.declared.Item.the-variants.{StreamRate, Arrival}
 use Rattle.quantity.specs.declared.Bits.{Bits}
 use Rattle.quantity.proofs.Ranges.{at-most}
-use Rattle.shaper.specs.ExactTime.{bitTime, tickTime, exactly, momentOf, roundedUp, orZero}
-use Rattle.shaper.specs.Frame.{burstOf, E-first, S, F, E-after, earliest, afterRelease, eligibilityTime, discarded, released, settled, processFrame}
-use Rattle.shaper.specs.Sound.{soundGroup, soundRegulator, sound}
-use Rattle.shaper.specs.Numbers.{aboveBurst, charged, judged}
-use Rattle.shaper.specs.SetUp.{freshStream}
-use Rattle.shaper.specs.Steps.{shortfall}
-use Rattle.shaper.specs.declared.Moment.{Moment}
-use Rattle.shaper.specs.declared.Group.{Group}
-use Rattle.shaper.specs.declared.Stream.{Stream}
-use Rattle.shaper.specs.declared.Regulator.{Regulator}
-use Rattle.shaper.specs.declared.Regulator.the-variants.{Unset, Bucket}
-use Rattle.shaper.proofs.Integers.{sum, difference, of-lt, of-not-lt, opposite-above, opposite-below}
-use Rattle.shaper.proofs.ExactTime.{not-before-first, first-least, exactly-of, part-of}
-use Rattle.shaper.proofs.Soundness.{GroupOk, group-ok, group-sound, BucketOk, bucket-ok, bucket-sound, full-zero, full-below, SoundOk, sound-ok, sound-of}
+use Rattle.records.specs.ExactTime.{bitTime, tickTime, exactly, momentOf, roundedUp, orZero, E-first}
+use Rattle.shaper.specs.Frame.{burstOf, S, F, E-after, earliest, afterRelease, eligibilityTime, discarded, released, settled, processFrame}
+use Rattle.records.specs.Sound.{soundGroup, soundRegulator, sound}
+use Rattle.shaper.specs.Numbers.{aboveBurst, judged}
+use Rattle.quantity.specs.Charge.{charged}
+use Rattle.records.specs.SetUp.{freshStream}
+use Rattle.records.specs.Steps.{shortfall}
+use Rattle.records.specs.declared.Moment.{Moment}
+use Rattle.records.specs.declared.Group.{Group}
+use Rattle.records.specs.declared.Stream.{Stream}
+use Rattle.records.specs.declared.Regulator.{Regulator}
+use Rattle.records.specs.declared.Regulator.the-variants.{Unset, Bucket}
+use Rattle.records.proofs.Integers.{sum, difference, of-lt, of-not-lt, opposite-above, opposite-below}
+use Rattle.records.proofs.ExactTime.{not-before-first, first-least, exactly-of, part-of}
+use Rattle.records.proofs.Soundness.{GroupOk, group-ok, group-sound, BucketOk, bucket-ok, bucket-sound, SoundOk, sound-ok, sound-of}
+use Rattle.shaper.proofs.Buckets.{full-zero, full-below}
 use Rattle.shaper.proofs.Judging.{Passes}
 
 -- X of a regulator

@@ -5,16 +5,17 @@ use mathlib.Core.Path.{_≡_, refl}
 use mathlib.Core.List.{List, [], _∷_, map}
 use lib.IntN.{ℤ, pos, negℤ}
 use Rattle.quantity.specs.Ranges.{inRange}
-use Rattle.shaper.specs.Charge.{chargedBits}
-use Rattle.shaper.specs.ExactTime.{exactly, momentOf, roundedUp}
-use Rattle.shaper.specs.Frame.{E-first, S, F, E-after, earliest, afterRelease, eligibilityTime, discarded, released, settled, processFrame}
-use Rattle.shaper.specs.Sound.{soundGroup, soundRegulator, sound}
-use Rattle.shaper.specs.SetUp.{freshGroup, freshStream}
-use Rattle.shaper.specs.Numbers.{aboveBurst, judged, answerNumber, answerValues}
-use Rattle.shaper.specs.declared.Moment.{Moment}
-use Rattle.shaper.specs.declared.Stream.{Stream}
-use Rattle.shaper.specs.declared.Regulator.{Regulator}
-use Rattle.shaper.specs.declared.Regulator.the-variants.{Unset, Bucket}
+use Rattle.quantity.specs.Charge.{chargedBits}
+use Rattle.records.specs.ExactTime.{exactly, momentOf, roundedUp, E-first}
+use Rattle.shaper.specs.Frame.{S, F, E-after, earliest, afterRelease, eligibilityTime, discarded, released, settled, processFrame}
+use Rattle.records.specs.Sound.{soundGroup, soundRegulator, sound}
+use Rattle.records.specs.SetUp.{freshGroup, freshStream}
+use Rattle.shaper.specs.Numbers.{aboveBurst, judged}
+use Rattle.records.specs.Numbers.{answerNumber, answerValues}
+use Rattle.records.specs.declared.Moment.{Moment}
+use Rattle.records.specs.declared.Stream.{Stream}
+use Rattle.records.specs.declared.Regulator.{Regulator}
+use Rattle.records.specs.declared.Regulator.the-variants.{Unset, Bucket}
 use Rattle.shaper.specs.declared.Judged.{Judged}
 
 -- a row: the answer's number and values, and the bucket empty time after it; a blank of the document is an empty list

@@ -4,23 +4,18 @@
 use Prim.Native.Nat.{ℕ, _+_, _*_, _%_, _^_, max}
 use mathlib.Core.Bool.{Bool, cond}
 use lib.Dec.{ltb}
-use lib.IntN.{ℤ, pos, negℤ, _+ℤ_, _-ℤ_}
+use lib.IntN.{ℤ, pos, _+ℤ_, _-ℤ_}
 use lib.Signed.{ltZ}
-use Rattle.quantity.specs.declared.Ticks.{Ticks}
-use Rattle.shaper.specs.ExactTime.{bitTime, tickTime, exactly, momentOf, roundedUp, orZero}
-use Rattle.shaper.specs.declared.Moment.{Moment}
-use Rattle.shaper.specs.declared.Group.{Group}
-use Rattle.shaper.specs.declared.Stream.{Stream}
-use Rattle.shaper.specs.declared.Regulator.{Regulator}
-use Rattle.shaper.specs.declared.Regulator.the-variants.{Unset, Bucket}
+use Rattle.records.specs.ExactTime.{ticks, bitTime, tickTime, exactly, momentOf, roundedUp, orZero}
+use Rattle.records.specs.declared.Moment.{Moment}
+use Rattle.records.specs.declared.Group.{Group}
+use Rattle.records.specs.declared.Stream.{Stream}
+use Rattle.records.specs.declared.Regulator.{Regulator}
+use Rattle.records.specs.declared.Regulator.the-variants.{Unset, Bucket}
 use Rattle.shaper.specs.declared.Judged.{Judged}
-use Rattle.shaper.specs.declared.Answer.the-variants.{Released, Discarded}
+use Rattle.records.specs.declared.Answer.the-variants.{Released, Discarded}
 
 -- ---- the bucket
-
--- the bucket empty time is first −b·10⁹/r
-unfoldable pub E-first : ℕ → ℤ
-E-first b = negℤ (pos (bitTime b))
 
 -- S = E + L·10⁹/r
 unfoldable pub S : ℤ → ℕ → ℤ
@@ -52,10 +47,6 @@ afterRelease r Unset L T = Unset
 afterRelease r (Bucket b e) L T = Bucket b (momentOf r (E-after r (exactly r e) (b .0) L T))
 
 -- ---- what all streams have in common
-
--- so many ticks, as the records hold them
-abbrev pub ticks : ℕ → Ticks
-ticks n = record { 0 = n }
 
 -- T = the largest of A, G and the smallest whole tick that the regulator allows
 unfoldable pub eligibilityTime : Stream → Group → ℕ → ℕ → ℕ

@@ -5,26 +5,24 @@ use mathlib.Core.Path.{_≡_}
 use mathlib.Core.Bool.{not, cond}
 use lib.Dec.{ltb}
 use lib.IntN.{ℤ, pos, negsuc, _+ℤ_}
-use Rattle.shaper.specs.declared.Moment.{Moment}
+use Rattle.records.specs.declared.Moment.{Moment}
 use Rattle.shaper.specs.declared.Span.{Span}
 use Rattle.quantity.specs.Ranges.{inRange, mostOf}
 use Rattle.quantity.specs.declared.Item.the-variants.{Octets, StreamRate, Burst, Residence, Arrival}
 use Rattle.quantity.specs.declared.Refusal.the-variants.{Unsound, NoStream, LengthRange, AboveBurst, TooLate, BeforeLast}
-use Rattle.shaper.specs.declared.Regulator.{Regulator}
-use Rattle.shaper.specs.declared.Regulator.the-variants.{Unset, Bucket}
-use Rattle.shaper.specs.ExactTime.{bitTime, exactly, orZero}
+use Rattle.records.specs.declared.Regulator.{Regulator}
+use Rattle.records.specs.declared.Regulator.the-variants.{Unset, Bucket}
+use Rattle.records.specs.ExactTime.{bitTime, exactly, orZero}
+use Rattle.records.specs.Steps.{shortfall}
 use Rattle.shaper.specs.Frame.{F}
-use Rattle.shaper.specs.Sound.{sound}
-use Rattle.shaper.specs.Numbers.{isSetUp, aboveBurst, charged}
-use Rattle.shaper.specs.declared.Group.{Group}
-use Rattle.shaper.specs.declared.Stream.{Stream}
+use Rattle.records.specs.Sound.{sound}
+use Rattle.records.specs.Numbers.{isSetUp}
+use Rattle.shaper.specs.Numbers.{aboveBurst}
+use Rattle.quantity.specs.Charge.{charged}
+use Rattle.records.specs.declared.Group.{Group}
+use Rattle.records.specs.declared.Stream.{Stream}
 use Rattle.shaper.specs.declared.Tested.{Tested}
 use Rattle.shaper.specs.declared.Tested.the-variants.{Refused, Charged}
-
--- how far a whole number is below 0: z is orZero z − shortfall z, and one of the two is 0
-abbrev pub shortfall : ℤ → ℕ
-shortfall (pos n) = 0
-shortfall (negsuc n) = suc n
 
 -- a span, in r-ths of a tick
 unfoldable pub spanTime : ℕ → Span → ℕ

@@ -1,17 +1,17 @@
 // Exact time: what a rate turns bits into, and sums of moments and spans with their remainders. Nothing is rounded but
 // by `first_tick`, once for each frame.
-use crate::Moment;
 use crate::Span;
 use quantity::Bits;
 use quantity::Rate;
 use quantity::Ticks;
+use records::Moment;
 ghost use mathlib.Core.Path.{_≡_};
-ghost use mathlib.Core.Bool.{true, false};
 ghost use Prim.Native.Nat.{ℕ, _+_, _*_, _<_, _≤_, _^_};
-ghost use lib.IntN.{pos, negℤ, _+ℤ_};
+ghost use lib.IntN.{pos, _+ℤ_};
 ghost use lib.Signed.{ltZ};
-ghost use Rattle.shaper.specs.ExactTime.{orZero, exactly, momentOf, roundedUp, bitTime};
-ghost use Rattle.shaper.specs.Steps.{shortfall, spanTime, Lasts, Later, Fills};
+ghost use Rattle.records.specs.ExactTime.{orZero, exactly, roundedUp};
+ghost use Rattle.records.specs.Steps.{shortfall};
+ghost use Rattle.shaper.specs.Steps.{spanTime, Lasts, Later, Fills};
 
 // n ticks after a.
 fn raised(a: i64, n: u64) -> i64
@@ -19,14 +19,6 @@ fn raised(a: i64, n: u64) -> i64
     ensures { λ r. ⌜ r ≡ a +ℤ pos n ⌝ }
 {
     a + (n as i64)
-}
-
-// n ticks before tick 0.
-fn lowered(n: u64) -> i64
-    requires { ⌜ n < 2 ^ 63 ⌝ }
-    ensures { λ r. ⌜ r ≡ negℤ (pos n) ⌝ }
-{
-    0 - (n as i64)
 }
 
 // a, or 0 where a is below 0.
@@ -74,26 +66,6 @@ pub(crate) fn later(m: Moment, span: Span, rate: Rate) -> Moment
             ticks: raised(m.ticks, whole + 1),
             part: over - r,
         }
-    }
-}
-
-// The moment that is a span before tick 0.
-pub(crate) fn before_zero(span: Span, rate: Rate) -> Moment
-    requires { ⌜ (span .part < rate .0) × (span .ticks + 1 < 2 ^ 63) ⌝ }
-    ensures { λ m. ⌜ m ≡ momentOf (rate .0) (negℤ (pos (spanTime (rate .0) span))) ⌝ }
-{
-    let whole = span.ticks;
-    let part = span.part;
-    let r = rate.0;
-    if part == 0 {
-        return Moment {
-            ticks: lowered(whole),
-            part: 0,
-        };
-    }
-    Moment {
-        ticks: lowered(whole + 1),
-        part: r - part,
     }
 }
 

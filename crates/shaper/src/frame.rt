@@ -1,11 +1,5 @@
-// One frame through a scheduler: its charge, its eligibility time, and the records after it.
-use crate::Answer;
-use crate::Group;
+// One frame through a scheduler: its eligibility time, and the records after it.
 use crate::Judged;
-use crate::Moment;
-use crate::ORDINARY_OVERHEAD;
-use crate::Regulator;
-use crate::Stream;
 use crate::Tested;
 use crate::exact::first_tick;
 use crate::exact::lasting;
@@ -14,44 +8,32 @@ use crate::exact::until;
 use crate::sound::is_sound;
 use quantity::Bits;
 use quantity::Item;
+use quantity::ORDINARY_OVERHEAD;
 use quantity::Rate;
 use quantity::Refusal;
 use quantity::Ticks;
+use quantity::charge;
 use quantity::in_range;
-use quantity::refusal_number;
+use records::Answer;
+use records::Group;
+use records::Moment;
+use records::Regulator;
+use records::Stream;
+use records::is_set_up;
 ghost use mathlib.Core.Path.{_≡_};
 ghost use mathlib.Core.Bool.{true, false};
 ghost use Prim.Native.Nat.{_≤_, max};
 ghost use Rattle.quantity.specs.Ranges.{inRange};
-ghost use Rattle.shaper.specs.Charge.{chargedBits};
-ghost use Rattle.shaper.specs.ExactTime.{exactly, momentOf};
+ghost use Rattle.records.specs.ExactTime.{exactly, momentOf};
 ghost use Rattle.shaper.specs.Frame.{E-after, earliest, afterRelease, eligibilityTime, discarded as discardedOf, released as releasedOf, processFrame};
-ghost use Rattle.shaper.specs.Sound.{sound};
-ghost use Rattle.shaper.specs.Numbers.{isSetUp, aboveBurst, refused as refusedOf, judged, answerNumber};
+ghost use Rattle.records.specs.Sound.{sound};
+ghost use Rattle.shaper.specs.Numbers.{aboveBurst, refused as refusedOf, judged};
 ghost use Rattle.shaper.specs.Steps.{latestRelease, BucketWorks, Works, StartsAt, ChargedTo, tested};
-
-// The charged bits of a frame on a line that adds so many octets to each.
-pub fn charge(octets: u16, overhead: u8) -> Bits
-    ensures { λ r. ⌜ r .0 ≡ chargedBits overhead octets ⌝ }
-{
-    Bits(8 * ((octets as u64) + (overhead as u64)))
-}
 
 fn later_of(a: Ticks, b: Ticks) -> Ticks
     ensures { λ r. ⌜ r .0 ≡ max (a .0) (b .0) ⌝ }
 {
     if a.0 < b.0 { b } else { a }
-}
-
-// Whether a stream is set up.
-pub fn is_set_up(regulator: Regulator) -> bool
-    ensures { λ r. ⌜ r ≡ isSetUp regulator ⌝ }
-{
-    if let Regulator::Unset = regulator {
-        false
-    } else {
-        true
-    }
 }
 
 fn above_burst(regulator: Regulator, bits: Bits) -> bool
@@ -219,16 +201,5 @@ pub fn judge(stream: Stream, group: Group, octets: u16, arrival: Ticks) -> Judge
     match test_frame(stream, group, octets, arrival) {
         Tested::Refused(why) => refused(stream, group, why),
         Tested::Charged(bits) => process_frame(stream, group, bits, arrival),
-    }
-}
-
-// Document 01's number of an answer.
-pub fn answer_number(answer: Answer) -> u8
-    ensures { λ r. ⌜ r ≡ answerNumber answer ⌝ }
-{
-    match answer {
-        Answer::Released(_) => 0,
-        Answer::Discarded(_) => 1,
-        Answer::Refused(why) => refusal_number(why),
     }
 }

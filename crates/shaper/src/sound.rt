@@ -1,9 +1,5 @@
-// What is sound: the tests that a record passes before a frame is judged by it. A record reached from a fresh start
+// What is sound of a stream with its group: the tests that a record passes before a frame is judged by it. A record reached from a fresh start
 // always passes them.
-use crate::Group;
-use crate::Moment;
-use crate::Regulator;
-use crate::Stream;
 use crate::exact::first_tick;
 use crate::exact::lasting;
 use crate::exact::later;
@@ -13,35 +9,17 @@ use quantity::Item;
 use quantity::Rate;
 use quantity::Ticks;
 use quantity::in_range;
+use records::Group;
+use records::Moment;
+use records::Regulator;
+use records::Stream;
+use records::sound_group;
 ghost use mathlib.Core.Path.{_≡_};
 ghost use mathlib.Core.Bool.{true};
 ghost use Prim.Native.Nat.{_≤_};
 ghost use Rattle.quantity.specs.Ranges.{inRange};
-ghost use Rattle.shaper.specs.Sound.{soundGroup, soundRegulator, sound};
+ghost use Rattle.records.specs.Sound.{soundRegulator, sound};
 ghost use Rattle.shaper.specs.Steps.{latestRelease};
-
-pub(crate) fn sound_group(group: Group) -> bool
-    ensures { λ r. ⌜ r ≡ soundGroup group ⌝ }
-{
-    let used = group.used;
-    let class = group.class;
-    let residence = group.residence.0;
-    let last = group.last.0;
-    let time = group.time.0;
-    if !used {
-        return false;
-    }
-    if !in_range(Item::Class, class as u64) {
-        return false;
-    }
-    if !in_range(Item::Residence, residence) {
-        return false;
-    }
-    if !in_range(Item::Arrival, last) {
-        return false;
-    }
-    time <= last + residence
-}
 
 // Of a stream of a rate in range, in a group whose time is not beyond every release.
 fn sound_bucket(burst: Bits, empty: Moment, rate: Rate, time: Ticks) -> bool

@@ -21,8 +21,8 @@ use Rattle.reader.specs.declared.Reading.the-variants.{Found, NothingLeft, Refu
 use Rattle.reader.proofs.OneRecord.{Front, empty, cut, strange, whole, front, found-in-longer}
 use Rattle.bridge.specs.Calls.{groupCalled, streamCalled}
 use Rattle.bridge.specs.declared.Bridge.{Bridge}
-use Rattle.bridge.specs.declared.SetUp.{SetUp}
-use Rattle.bridge.specs.declared.SetUp.the-variants as set-up
+use Rattle.calls.specs.declared.SetUp.{SetUp}
+use Rattle.calls.specs.declared.SetUp.the-variants as set-up
 use Rattle.yard.specs.declared.End.{End}
 use Rattle.yard.specs.declared.End.the-variants as end
 use Rattle.yard.specs.declared.Task.{Task}

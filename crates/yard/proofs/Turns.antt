@@ -20,13 +20,13 @@ use Rattle.reader.specs.declared.Reading.the-variants as reading
 use Rattle.tablefile.proofs.Fields.{mark-width}
 use Rattle.reader.proofs.Marks.{none-left}
 use Rattle.reader.proofs.OneRecord.{Front, empty, cut, strange, whole, front}
-use Rattle.bridge.specs.Tables.{groupPlace, streamPlace}
+use Rattle.calls.specs.Places.{groupPlace, streamPlace}
 use Rattle.bridge.specs.Calls.{groupCalled, streamCalled}
 use Rattle.bridge.specs.declared.Bridge.{Bridge}
 use Rattle.bridge.specs.declared.BridgeSetUp.{BridgeSetUp}
-use Rattle.bridge.specs.declared.SetUp.{SetUp}
-use Rattle.bridge.specs.declared.SetUp.the-variants.{Done, Refused}
-use Rattle.bridge.proofs.Places.{group-below, stream-below}
+use Rattle.calls.specs.declared.SetUp.{SetUp}
+use Rattle.calls.specs.declared.SetUp.the-variants.{Done, Refused}
+use Rattle.calls.proofs.Places.{group-below, stream-below}
 use Rattle.yard.specs.declared.End.{End}
 use Rattle.yard.specs.declared.End.the-variants.{NothingLeft, Unreadable, NotSetUp, ListsFull}
 use Rattle.yard.specs.declared.Task.{Task}

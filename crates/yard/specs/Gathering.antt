@@ -15,8 +15,8 @@ use Rattle.reader.specs.declared.Reading.the-variants as reading
 use Rattle.bridge.specs.Calls.{groupCalled, streamCalled}
 use Rattle.bridge.specs.declared.Bridge.{Bridge}
 use Rattle.bridge.specs.declared.BridgeSetUp.{BridgeSetUp}
-use Rattle.bridge.specs.declared.SetUp.{SetUp}
-use Rattle.bridge.specs.declared.SetUp.the-variants.{Done, Refused}
+use Rattle.calls.specs.declared.SetUp.{SetUp}
+use Rattle.calls.specs.declared.SetUp.the-variants.{Done, Refused}
 use Rattle.yard.specs.declared.End.{End}
 use Rattle.yard.specs.declared.End.the-variants.{NothingLeft, Unreadable, NotSetUp, ListsFull}
 use Rattle.yard.specs.declared.Task.{Task}

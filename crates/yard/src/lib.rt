@@ -2,7 +2,7 @@
 // Reading a record is `reader`'s, setting up is `bridge`'s, the run itself `line`'s. Input and output live with the
 // programs.
 use bridge::Bridge;
-use bridge::SetUp;
+use calls::SetUp;
 use quantity::Bits;
 use quantity::Rate;
 use quantity::Refusal;
@@ -177,8 +177,8 @@ pub fn gather_part(
                 residence,
                 next,
             } => {
-                let place = bridge::group_place(group);
-                let placed = bridge::place_group(group, groups[place], class, residence);
+                let place = calls::group_place(group);
+                let placed = calls::place_group(group, groups[place], class, residence);
                 let after = placed.group;
                 let answer = placed.answer;
                 groups[place] = after;
@@ -202,9 +202,9 @@ pub fn gather_part(
                 burst,
                 next,
             } => {
-                let place = bridge::stream_place(stream);
-                let of = bridge::group_place(group);
-                let placed = bridge::place_stream(
+                let place = calls::stream_place(stream);
+                let of = calls::group_place(group);
+                let placed = calls::place_stream(
                     stream,
                     streams[place],
                     group,

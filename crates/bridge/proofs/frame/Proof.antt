@@ -5,7 +5,8 @@ use Prim.Native.Nat.{_<_}
 use native.Mathlib.Omega.{arith}
 use lib.ListN.{getD}
 use Rattle.bridge.specs.Tables.{noStream}
-use Rattle.bridge.proofs.Places.{group-below, stream-below, frame-call}
+use Rattle.calls.proofs.Places.{group-below, stream-below}
+use Rattle.bridge.proofs.Tables.{frame-call}
 use Rattle.bridge.proofs.frame.Statement.{statement}
 use Rattle.bridge.proofs.frame.Tie as tie
 

@@ -2,8 +2,8 @@
 use borrow.Author.Needs.{needs}
 use mathlib.Core.Path.{ap, _∙_}
 use lib.ListN.{replicate}
-use Rattle.shaper.specs.declared.Group.{Group}
-use Rattle.shaper.specs.declared.Stream.{Stream}
+use Rattle.records.specs.declared.Group.{Group}
+use Rattle.records.specs.declared.Stream.{Stream}
 use Rattle.bridge.specs.Tables.{noGroup, freshBridge}
 use Rattle.bridge.proofs.fresh.Statement.{statement}
 use Rattle.bridge.proofs.fresh.Tie as tie

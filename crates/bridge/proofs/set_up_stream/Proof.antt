@@ -3,7 +3,8 @@ use borrow.Author.Needs.{needs}
 use mathlib.Core.Path.{_∙_}
 use Prim.Native.Nat.{_<_}
 use native.Mathlib.Omega.{arith}
-use Rattle.bridge.proofs.Places.{group-below, stream-below, stream-call}
+use Rattle.calls.proofs.Places.{group-below, stream-below}
+use Rattle.bridge.proofs.Tables.{stream-call}
 use Rattle.bridge.proofs.set_up_stream.Statement.{statement}
 use Rattle.bridge.proofs.set_up_stream.Tie as tie
 

@@ -50,38 +50,38 @@ use denote.Exit.{yes}
 use Rattle.quantity.specs.declared.Ticks.{Ticks}
 use Rattle.quantity.proofs.Ticks as T
 use Rattle.quantity.proofs.Ticks.Laws as T′
-use Rattle.shaper.specs.declared.Group.{Group}
-use Rattle.shaper.specs.declared.Stream.{Stream}
+use Rattle.records.specs.declared.Group.{Group}
+use Rattle.records.specs.declared.Stream.{Stream}
 use Rattle.shaper.specs.declared.Judged.{Judged}
-use Rattle.shaper.specs.declared.Answer.{Answer}
-use Rattle.shaper.specs.declared.Answer.the-variants.{Refused}
-use Rattle.shaper.proofs.Group as G
-use Rattle.shaper.proofs.Group.Laws as G′
-use Rattle.shaper.proofs.Stream as S
-use Rattle.shaper.proofs.Stream.Laws as S′
+use Rattle.records.specs.declared.Answer.{Answer}
+use Rattle.records.specs.declared.Answer.the-variants.{Refused}
+use Rattle.records.proofs.Group as G
+use Rattle.records.proofs.Group.Laws as G′
+use Rattle.records.proofs.Stream as S
+use Rattle.records.proofs.Stream.Laws as S′
 use Rattle.shaper.proofs.Judged as J
 use Rattle.shaper.proofs.Judged.Laws as J′
-use Rattle.shaper.proofs.Answer as N
-use Rattle.shaper.proofs.Answer.Laws as N′
+use Rattle.records.proofs.Answer as N
+use Rattle.records.proofs.Answer.Laws as N′
 use Rattle.bridge.specs.Tables.{noStream}
-use Rattle.receive.specs.InPlace.{judgedIn, received}
-use Rattle.receive.specs.Steps.{ready, unreadiness}
-use Rattle.receive.specs.declared.Received.{Received}
-use Rattle.receive.proofs.InPlaceLaws.{has-place, restamped, group-kept, is-stored, is-unready}
-use Rattle.receive.proofs.Freeing.{free-all}
-use Rattle.receive.proofs.Walking.{true-of, false-of, byte-fits, place-fits}
-use Rattle.receive.proofs.is_ready as is-ready
-use Rattle.receive.proofs.is_ready.Symbol as is-ready-def
-use Rattle.receive.proofs.is_ready.Symbol.{name as #receive·is-ready}
-use Rattle.receive.proofs.is_ready.Met as is-ready-thm
-use Rattle.receive.proofs.judge_in as judge-in
-use Rattle.receive.proofs.judge_in.Symbol as judge-in-def
-use Rattle.receive.proofs.judge_in.Symbol.{name as #receive·judge-in}
-use Rattle.receive.proofs.judge_in.Met as judge-in-thm
-use Rattle.receive.proofs.unready as unready
-use Rattle.receive.proofs.unready.Symbol as unready-def
-use Rattle.receive.proofs.unready.Symbol.{name as #receive·unready}
-use Rattle.receive.proofs.unready.Met as unready-thm
+use Rattle.lent.specs.InPlace.{judgedIn, received}
+use Rattle.lent.specs.Steps.{ready, unreadiness}
+use Rattle.lent.specs.declared.Received.{Received}
+use Rattle.lent.proofs.InPlaceLaws.{has-place, restamped, group-kept, is-stored, is-unready}
+use Rattle.lent.proofs.Freeing.{free-all}
+use Rattle.lent.proofs.Walking.{true-of, false-of, byte-fits, place-fits}
+use Rattle.lent.proofs.is_ready as is-ready
+use Rattle.lent.proofs.is_ready.Symbol as is-ready-def
+use Rattle.lent.proofs.is_ready.Symbol.{name as #lent·is-ready}
+use Rattle.lent.proofs.is_ready.Met as is-ready-thm
+use Rattle.lent.proofs.judge_in as judge-in
+use Rattle.lent.proofs.judge_in.Symbol as judge-in-def
+use Rattle.lent.proofs.judge_in.Symbol.{name as #lent·judge-in}
+use Rattle.lent.proofs.judge_in.Met as judge-in-thm
+use Rattle.lent.proofs.unready as unready
+use Rattle.lent.proofs.unready.Symbol as unready-def
+use Rattle.lent.proofs.unready.Symbol.{name as #lent·unready}
+use Rattle.lent.proofs.unready.Met as unready-thm
 use Rattle.receive.proofs.receive.Key.{name as #receive·receive}
 use Rattle.receive.proofs.receive as f
 use Rattle.receive.proofs.receive.Statement as stated
@@ -202,7 +202,7 @@ module _ {M : Type 1} (𝓤 : URA M) (H : Heap 𝓤) (A : Atoms 𝓤) (W : Given
   goes-unready =
       qed W [] ∵ nothing ! $ nothing ! $ owned ! usize (Is usize) (uint-makes 𝓤 H A W w64) (length ys) _ (refl, room .0) $ fjoin ! $ move ! (1 ∷ 0 ∷ []) $ join ! $ frame ! $ done !
 
-  module _ (C : Calls 𝓤 H) (Λ : Loops 𝓤 H) (fm : FmC 𝓤 H (W .laws) C) (known-ready : Triple 𝓤 (C #receive·is-ready) (IsReady 𝓤 H A at-mem run)) (known-judge : Triple 𝓤 (C #receive·judge-in) (JudgeIn 𝓤 H A at-mem run)) (known-unready : Triple 𝓤 (C #receive·unready) (Unready 𝓤 H A at-mem run)) where
+  module _ (C : Calls 𝓤 H) (Λ : Loops 𝓤 H) (fm : FmC 𝓤 H (W .laws) C) (known-ready : Triple 𝓤 (C #lent·is-ready) (IsReady 𝓤 H A at-mem run)) (known-judge : Triple 𝓤 (C #lent·judge-in) (JudgeIn 𝓤 H A at-mem run)) (known-unready : Triple 𝓤 (C #lent·unready) (Unready 𝓤 H A at-mem run)) where
     -- The offset d of each field is written out: what would be found for it is a long sum of sizes, which would stand in every later context.
     -- A slice's length begins at byte 8; in a Judged the stream at 16 and the group at 64; in a Group the time at 16, the last arrival at 24, the discard count at 32.
     walk : ent 𝓤 (onEntry 𝓤 H A f.signature (κ, (κ′, tt)) (q, (q′, tt)) x at) (WpFn 𝓤 H C Λ code.function (vint w8 i ∷ vptr b o ∷ s ∷ vint w8 k ∷ vint w16 n ∷ a-val m ∷ []) Post)
@@ -271,7 +271,7 @@ module _ {M : Type 1} (𝓤 : URA M) (H : Heap 𝓤) (A : Atoms 𝓤) (W : Given
         keep ! (0 ∷ 1 ∷ 2 ∷ 3 ∷ 4 ∷ 5 ∷ []) $ by ! (exits h ys r (ap (λ (w : Answer). record { answer = w; group = h; streams = ys }) e ∙ sym (is-unready i h ys k n (m .0) (sym e₁ ∙ false-of z t))) refl (subst (Is N.the-row r) (EL.tells N.the-type N′.the-laws r _ is) is)))))))))))))))))))))))))))))
 
 module _ {M : Type 1} (𝓤 : URA M) (H : Heap 𝓤) (A : Atoms 𝓤) (W : Given 𝓤 H A) (at-mem : Memory → SProp 𝓤) (run : Routine → Fun 𝓤) where
-  receive-walks : (C : Calls 𝓤 H) (Λ : Loops 𝓤 H) → FmC 𝓤 H (W .laws) C → Triple 𝓤 (C #receive·is-ready) (IsReady 𝓤 H A at-mem run) → Triple 𝓤 (C #receive·judge-in) (JudgeIn 𝓤 H A at-mem run) → Triple 𝓤 (C #receive·unready) (Unready 𝓤 H A at-mem run)
+  receive-walks : (C : Calls 𝓤 H) (Λ : Loops 𝓤 H) → FmC 𝓤 H (W .laws) C → Triple 𝓤 (C #lent·is-ready) (IsReady 𝓤 H A at-mem run) → Triple 𝓤 (C #lent·judge-in) (JudgeIn 𝓤 H A at-mem run) → Triple 𝓤 (C #lent·unready) (Unready 𝓤 H A at-mem run)
       → Walks 𝓤 H A f.ended stayed (WpFn 𝓤 H C Λ code.function) (f.clauses 𝓤 H A at-mem run)
   receive-walks C Λ fm known-ready known-judge known-unready = walked 𝓤 H A f.ended stayed (f.clauses 𝓤 H A at-mem run) (WpFn 𝓤 H C Λ code.function)
       (λ κs. (uint-vals w8, (ptr-vals, (slice-vals, (uint-vals w8, (uint-vals w16, (LL.vals T.the-type T′.the-laws, tt))))))) (λ κs. (uint-tells w8, (mut-tells (named 0) (κs .0) G.the-row, (mut-slice-tells (named 1) (κs .1 .0) S.the-row, (uint-tells w8, (uint-tells w16, (LL.tells T.the-type T′.the-laws, tt)))))))
@@ -282,7 +282,7 @@ module _ {M : Type 1} (𝓤 : URA M) (H : Heap 𝓤) (A : Atoms 𝓤) (W : Given
   goes = (goes-none 𝓤 H A W 2 (λ _. u8) yes (λ κs x f. refl), (goes-ref 𝓤 H A W 2 0 tt (plain (λ _. G.the-row)), (goes-slice 𝓤 H A W 2 1 tt (plain (λ _. S.the-row)), (goes-none 𝓤 H A W 2 (λ _. u8) yes (λ κs x f. refl), (goes-none 𝓤 H A W 2 (λ _. u16) yes (λ κs x f. refl), (goes-none 𝓤 H A W 2 (λ _. T.the-row) yes (λ κs x f. refl), tt))))))
 
 receive-meets : {M : Type 1} (𝓤 : URA M) (H : Heap 𝓤) (A : Atoms 𝓤) (W : Given 𝓤 H A) (at-mem : Memory → SProp 𝓤) (run : Routine → Fun 𝓤) (𝓣 : Tables 𝓤 H)
-    → Triple 𝓤 (𝓣 .C #receive·is-ready) (IsReady 𝓤 H A at-mem run) → Triple 𝓤 (𝓣 .C #receive·judge-in) (JudgeIn 𝓤 H A at-mem run) → Triple 𝓤 (𝓣 .C #receive·unready) (Unready 𝓤 H A at-mem run)
+    → Triple 𝓤 (𝓣 .C #lent·is-ready) (IsReady 𝓤 H A at-mem run) → Triple 𝓤 (𝓣 .C #lent·judge-in) (JudgeIn 𝓤 H A at-mem run) → Triple 𝓤 (𝓣 .C #lent·unready) (Unready 𝓤 H A at-mem run)
     → Meets 𝓤 H A f.signature (WpFn 𝓤 H (𝓣 .C) (𝓣 .Λ) code.function) (f.spec 𝓤 H A at-mem run)
 receive-meets 𝓤 H A W at-mem run 𝓣 known-ready known-judge known-unready = walk-meets 𝓤 H A f.ended stayed W (goes 𝓤 H A W at-mem run) (f.clauses 𝓤 H A at-mem run) (WpFn 𝓤 H (𝓣 .C) (𝓣 .Λ) code.function) (WpFn-mono 𝓤 H (W .laws) 𝓣 code.function)
     (receive-walks 𝓤 H A W at-mem run (𝓣 .C) (𝓣 .Λ) (fmOf 𝓤 H (W .laws) 𝓣) known-ready known-judge known-unready)
@@ -293,6 +293,6 @@ receive-spec 𝓤 H 𝓜 𝓖 𝓡 =
     entered 𝓤 H (tripleOf 𝓤 H (𝓖 .A) f.signature (f.spec 𝓤 H (𝓖 .A) (𝓜 .mem) (𝓡 .run)))
     (tables 𝓤 H 𝓜 𝓡 code.env .C) (tables 𝓤 H 𝓜 𝓡 code.env .Λ) #receive·receive code.function (code.unfolded 𝓤 H 𝓜 𝓡)
     (receive-meets 𝓤 H (𝓖 .A) (givenOf 𝓤 H 𝓜 𝓖) (𝓜 .mem) (𝓡 .run) (tablesOf 𝓤 H 𝓜 (tables 𝓤 H 𝓜 𝓡 code.env))
-    (cited 𝓤 H (IsReady 𝓤 H (𝓖 .A) (𝓜 .mem) (𝓡 .run)) 𝓜 𝓡 code.env #receive·is-ready is-ready-def.routine code.calls-receive·is-ready (is-ready-thm.met 𝓤 H 𝓜 𝓖 𝓡))
-    (cited 𝓤 H (JudgeIn 𝓤 H (𝓖 .A) (𝓜 .mem) (𝓡 .run)) 𝓜 𝓡 code.env #receive·judge-in judge-in-def.routine code.calls-receive·judge-in (judge-in-thm.met 𝓤 H 𝓜 𝓖 𝓡))
-    (cited 𝓤 H (Unready 𝓤 H (𝓖 .A) (𝓜 .mem) (𝓡 .run)) 𝓜 𝓡 code.env #receive·unready unready-def.routine code.calls-receive·unready (unready-thm.met 𝓤 H 𝓜 𝓖 𝓡)))
+    (cited 𝓤 H (IsReady 𝓤 H (𝓖 .A) (𝓜 .mem) (𝓡 .run)) 𝓜 𝓡 code.env #lent·is-ready is-ready-def.routine code.calls-lent·is-ready (is-ready-thm.met 𝓤 H 𝓜 𝓖 𝓡))
+    (cited 𝓤 H (JudgeIn 𝓤 H (𝓖 .A) (𝓜 .mem) (𝓡 .run)) 𝓜 𝓡 code.env #lent·judge-in judge-in-def.routine code.calls-lent·judge-in (judge-in-thm.met 𝓤 H 𝓜 𝓖 𝓡))
+    (cited 𝓤 H (Unready 𝓤 H (𝓖 .A) (𝓜 .mem) (𝓡 .run)) 𝓜 𝓡 code.env #lent·unready unready-def.routine code.calls-lent·unready (unready-thm.met 𝓤 H 𝓜 𝓖 𝓡)))

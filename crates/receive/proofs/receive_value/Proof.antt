@@ -43,22 +43,22 @@ use denote.Triple.Table.{entered, cited}
 use denote.Triple.Clauses.{ensured, lasts}
 use denote.Triple.Walked.{says, Stays, stay-none, walkOf, AllGo, goes-none, Walks, ends-at, walked, walk-meets}
 use denote.Exit.{yes}
-use Rattle.receive.specs.InPlace.{received}
+use Rattle.lent.specs.InPlace.{received}
 use Rattle.quantity.specs.declared.Ticks.{Ticks}
 use Rattle.quantity.proofs.Ticks as T
 use Rattle.quantity.proofs.Ticks.Laws as T′
-use Rattle.shaper.specs.declared.Group.{Group}
-use Rattle.shaper.specs.declared.Stream.{Stream}
-use Rattle.shaper.specs.declared.Answer.{Answer}
-use Rattle.receive.specs.declared.Received.{Received}
-use Rattle.shaper.proofs.Group as G
-use Rattle.shaper.proofs.Group.Laws as G′
-use Rattle.shaper.proofs.Stream as S
-use Rattle.shaper.proofs.Stream.Laws as S′
-use Rattle.shaper.proofs.Answer as N
-use Rattle.shaper.proofs.Answer.Laws as N′
-use Rattle.receive.proofs.Received as K
-use Rattle.receive.proofs.Received.Laws as K′
+use Rattle.records.specs.declared.Group.{Group}
+use Rattle.records.specs.declared.Stream.{Stream}
+use Rattle.records.specs.declared.Answer.{Answer}
+use Rattle.lent.specs.declared.Received.{Received}
+use Rattle.records.proofs.Group as G
+use Rattle.records.proofs.Group.Laws as G′
+use Rattle.records.proofs.Stream as S
+use Rattle.records.proofs.Stream.Laws as S′
+use Rattle.records.proofs.Answer as N
+use Rattle.records.proofs.Answer.Laws as N′
+use Rattle.lent.proofs.Received as K
+use Rattle.lent.proofs.Received.Laws as K′
 use Rattle.receive.proofs.Locals.{g-val, s-vals, Row, row-vals, row-val, row-mir, field-is, group-in, group-out, row-in, row-out}
 use Rattle.receive.proofs.receive as receive
 use Rattle.receive.proofs.receive.Symbol as receive-def

@@ -6,7 +6,7 @@ use native.Mathlib.Omega.{arith}
 use lib.ListN.{length, getD}
 use Rattle.bridge.specs.Tables.{noStream}
 use Rattle.bridge.specs.History.{group, stream, frame}
-use Rattle.bridge.proofs.Places.{group-below, stream-below}
+use Rattle.calls.proofs.Places.{group-below, stream-below}
 use Rattle.report.proofs.Stepping.{Going, going-by}
 use Rattle.report.proofs.Calls.{group-after, group-replies, stream-after, stream-replies, frame-after, frame-replies}
 use Rattle.report.proofs.Underway.{Underway, starts, stops, goes-further, turns}

@@ -7,9 +7,8 @@ use native.Mathlib.Omega.{arith}
 use mathlib.Core.List.{List, [], _∷_, _++_, append-assoc}
 use lib.ListN.{length, set, length-set}
 use Rattle.text.specs.Decimal.{decimal}
-use Rattle.report.specs.Steps.{headRoom, Put}
+use Rattle.report.specs.Steps.{headRoom, Put, valuesOf, replyOf}
 use Rattle.report.specs.Lines.{column, space, newline, lineOf}
-use Rattle.report.specs.Steps.{valuesOf, replyOf}
 use Rattle.report.proofs.Texts.{put-then, put-text, head-within}
 use Rattle.report.proofs.put_line.Statement.{statement}
 use Rattle.report.proofs.put_line.Tie as tie

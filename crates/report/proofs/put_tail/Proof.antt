@@ -7,9 +7,8 @@ use native.Mathlib.Omega.{arith}
 use mathlib.Core.List.{List, [], _∷_, _++_, append-assoc}
 use lib.ListN.{length, set, length-set}
 use Rattle.text.specs.Decimal.{decimal}
-use Rattle.report.specs.Steps.{Put}
+use Rattle.report.specs.Steps.{Put, valuesOf}
 use Rattle.report.specs.Lines.{column, space, newline}
-use Rattle.report.specs.Steps.{valuesOf}
 use Rattle.report.proofs.Texts.{put-then, put-length, put-byte-decimal, byte-room, byte-short, column-short}
 use Rattle.report.proofs.put_tail.Statement.{statement}
 use Rattle.report.proofs.put_tail.Tie as tie

@@ -5,7 +5,7 @@ use mathlib.Core.List.{List}
 use Prim.Native.Nat.{ℕ, _-_, _*_, _<_}
 use native.Mathlib.Omega.{arith}
 use lib.ListN.{length}
-use Rattle.bridge.proofs.Places.{group-call, stream-call}
+use Rattle.bridge.proofs.Tables.{group-call, stream-call}
 use Rattle.yard.specs.Gathering.{ended, begun, setUpTaken, frameTaken}
 use Rattle.yard.proofs.Turns.{group-found, stream-found, Gathers, starts, task-is, turn-ends, group-within, group-refused, group-done, stream-within, stream-refused, stream-done, frame-room, frame-within, frame-taken}
 use Rattle.yard.proofs.gather_part.Statement.{statement}

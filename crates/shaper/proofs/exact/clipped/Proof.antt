@@ -1,5 +1,5 @@
 -- `shaper::exact::clipped` meets its contract, by the sign of what the machine reads back. Assumes nothing.
-use Rattle.shaper.proofs.Machine.{clip-below, clip-asks, clip-is}
+use Rattle.records.proofs.Machine.{clip-below, clip-asks, clip-is}
 use Rattle.shaper.proofs.exact.clipped.Statement.{statement}
 use Rattle.shaper.proofs.exact.clipped.Tie as tie
 

@@ -9,9 +9,9 @@ use lib.Signed.{ltZ}
 use mir.Syntax.{w64}
 use mir.Val.{SFits}
 use mir.Facts.{toZ-ofZ}
-use Rattle.shaper.specs.ExactTime.{orZero}
-use Rattle.shaper.proofs.Machine.{fits-above}
-use Rattle.shaper.proofs.ExactTime.{up-negative, up-whole, up-next}
+use Rattle.records.specs.ExactTime.{orZero}
+use Rattle.records.proofs.Machine.{fits-above}
+use Rattle.records.proofs.ExactTime.{up-negative, up-whole, up-next}
 use Rattle.shaper.proofs.exact.first_tick.Statement.{statement}
 use Rattle.shaper.proofs.exact.first_tick.Tie as tie
 

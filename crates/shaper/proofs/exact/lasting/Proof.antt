@@ -1,7 +1,7 @@
 -- `shaper::exact::lasting` meets its contract: a quotient and its remainder make the dividend. Assumes nothing.
 use borrow.Author.Needs.{needs}
 use native.Mathlib.Nat.{div-add-mod', mod-lt, div-le-self}
-use Rattle.shaper.specs.ExactTime.{bitTime}
+use Rattle.records.specs.ExactTime.{bitTime}
 use Rattle.shaper.specs.Steps.{spanTime}
 use Rattle.shaper.proofs.exact.lasting.Statement.{statement}
 use Rattle.shaper.proofs.exact.lasting.Tie as tie

@@ -5,8 +5,8 @@ use native.Mathlib.Omega.{arith}
 use mir.Syntax.{w64}
 use mir.Val.{SFits}
 use mir.Facts.{toZ-ofZ}
-use Rattle.shaper.proofs.Machine.{handed}
-use Rattle.shaper.proofs.ExactTime.{after}
+use Rattle.records.proofs.Machine.{handed}
+use Rattle.shaper.proofs.Spans.{after}
 use Rattle.shaper.proofs.exact.later.Statement.{statement}
 use Rattle.shaper.proofs.exact.later.Tie as tie
 

@@ -1,6 +1,6 @@
 -- `shaper::exact::raised` meets its contract: the machine's sum is the sum in ℤ, since it stays below 2 ^ 63. Assumes nothing.
 use borrow.Author.Needs.{needs}
-use Rattle.shaper.proofs.Machine.{sum-fits, sum-is}
+use Rattle.records.proofs.Machine.{sum-fits, sum-is}
 use Rattle.shaper.proofs.exact.raised.Statement.{statement}
 use Rattle.shaper.proofs.exact.raised.Tie as tie
 

@@ -6,9 +6,9 @@ use native.Mathlib.Omega.{arith}
 use mir.Syntax.{w64}
 use mir.Val.{SFits}
 use mir.Facts.{toZ-ofZ}
-use Rattle.shaper.specs.ExactTime.{orZero}
+use Rattle.records.specs.ExactTime.{orZero}
 use Rattle.shaper.specs.Steps.{spanTime}
-use Rattle.shaper.proofs.ExactTime.{reach, within, within-more}
+use Rattle.records.proofs.ExactTime.{reach, within, within-more}
 use Rattle.shaper.proofs.exact.until.Statement.{statement}
 use Rattle.shaper.proofs.exact.until.Tie as tie
 

@@ -2,7 +2,7 @@
 use borrow.Author.Needs.{needs}
 use mathlib.Core.Path.{sym, ap}
 use Rattle.shaper.specs.Numbers.{aboveBurst}
-use Rattle.shaper.specs.declared.Regulator.{Regulator}
+use Rattle.records.specs.declared.Regulator.{Regulator}
 use Rattle.shaper.proofs.frame.above_burst.Statement.{statement}
 use Rattle.shaper.proofs.frame.above_burst.Tie as tie
 

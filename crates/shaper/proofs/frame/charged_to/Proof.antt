@@ -4,7 +4,7 @@ use mathlib.Core.Path.{ap, _∙_}
 use Prim.Native.Nat.{ℕ}
 use native.Mathlib.Omega.{arith}
 use lib.IntN.{pos, _+ℤ_}
-use Rattle.shaper.specs.ExactTime.{exactly}
+use Rattle.records.specs.ExactTime.{exactly}
 use Rattle.shaper.proofs.frame.charged_to.Statement.{statement}
 use Rattle.shaper.proofs.frame.charged_to.Tie as tie
 

@@ -3,7 +3,7 @@ use borrow.Author.Needs.{needs}
 use mathlib.Core.Path.{ap}
 use Prim.Native.Nat.{ℕ}
 use Rattle.shaper.specs.Frame.{discarded}
-use Rattle.shaper.specs.declared.Answer.the-variants.{Discarded}
+use Rattle.records.specs.declared.Answer.the-variants.{Discarded}
 use Rattle.shaper.proofs.frame.discarded.Statement.{statement}
 use Rattle.shaper.proofs.frame.discarded.Tie as tie
 

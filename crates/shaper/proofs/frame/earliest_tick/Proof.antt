@@ -3,10 +3,10 @@ use borrow.Author.Needs.{needs}
 use mathlib.Core.Path.{_≡_, sym, ap, _∙_}
 use Prim.Native.Nat.{ℕ}
 use lib.IntN.{ℤ}
-use Rattle.shaper.specs.ExactTime.{roundedUp, orZero}
+use Rattle.records.specs.ExactTime.{roundedUp, orZero}
 use Rattle.shaper.specs.Frame.{S, earliest}
 use Rattle.shaper.specs.Steps.{Works, BucketWorks}
-use Rattle.shaper.specs.declared.Regulator.{Regulator}
+use Rattle.records.specs.declared.Regulator.{Regulator}
 use Rattle.shaper.proofs.frame.earliest_tick.Statement.{statement}
 use Rattle.shaper.proofs.frame.earliest_tick.Tie as tie
 

@@ -5,11 +5,12 @@ use Prim.Native.Nat.{ℕ, _≤_, _<_, _*_, _+_}
 use native.Mathlib.Omega.{arith}
 use lib.IntN.{ℤ, pos, _+ℤ_}
 use lib.Signed.{ltZ}
-use Rattle.shaper.specs.ExactTime.{exactly, roundedUp, orZero}
+use Rattle.records.specs.ExactTime.{exactly, roundedUp, orZero}
 use Rattle.shaper.specs.Frame.{S, F}
-use Rattle.shaper.specs.Steps.{shortfall, spanTime}
-use Rattle.shaper.proofs.Integers.{not-negative, is-not-lt}
-use Rattle.shaper.proofs.ExactTime.{moment-of, not-before-first, sign}
+use Rattle.records.specs.Steps.{shortfall}
+use Rattle.shaper.specs.Steps.{spanTime}
+use Rattle.records.proofs.Integers.{not-negative, is-not-lt}
+use Rattle.records.proofs.ExactTime.{moment-of, not-before-first, sign}
 use Rattle.shaper.proofs.Judging.{before-full, from-full}
 use Rattle.shaper.proofs.frame.emptied.Statement.{statement}
 use Rattle.shaper.proofs.frame.emptied.Tie as tie

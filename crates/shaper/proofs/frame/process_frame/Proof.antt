@@ -7,7 +7,8 @@ use Rattle.quantity.specs.declared.Item.the-variants.{Arrival}
 use Rattle.quantity.proofs.Ranges.{at-most}
 use Rattle.shaper.specs.Frame.{settled, processFrame}
 use Rattle.shaper.specs.Steps.{Works}
-use Rattle.shaper.proofs.Soundness.{SoundOk, sound-ok, works}
+use Rattle.records.proofs.Soundness.{SoundOk, sound-ok}
+use Rattle.shaper.proofs.Buckets.{works}
 use Rattle.shaper.proofs.Judging.{too-late, in-time}
 use Rattle.shaper.proofs.frame.process_frame.Statement.{statement}
 use Rattle.shaper.proofs.frame.process_frame.Tie as tie

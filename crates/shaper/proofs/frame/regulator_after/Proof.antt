@@ -3,9 +3,9 @@ use borrow.Author.Needs.{needs}
 use mathlib.Core.Path.{_≡_, sym, ap, _∙_}
 use Rattle.shaper.specs.Frame.{afterRelease}
 use Rattle.shaper.specs.Steps.{Works, BucketWorks}
-use Rattle.shaper.specs.declared.Moment.{Moment}
-use Rattle.shaper.specs.declared.Regulator.{Regulator}
-use Rattle.shaper.specs.declared.Regulator.the-variants.{Bucket}
+use Rattle.records.specs.declared.Moment.{Moment}
+use Rattle.records.specs.declared.Regulator.{Regulator}
+use Rattle.records.specs.declared.Regulator.the-variants.{Bucket}
 use Rattle.shaper.proofs.frame.regulator_after.Statement.{statement}
 use Rattle.shaper.proofs.frame.regulator_after.Tie as tie
 

@@ -2,8 +2,8 @@
 use borrow.Author.Needs.{needs}
 use mathlib.Core.Path.{ap}
 use Rattle.shaper.specs.Frame.{released}
-use Rattle.shaper.specs.declared.Answer.the-variants.{Released}
-use Rattle.shaper.specs.declared.Regulator.{Regulator}
+use Rattle.records.specs.declared.Answer.the-variants.{Released}
+use Rattle.records.specs.declared.Regulator.{Regulator}
 use Rattle.shaper.proofs.frame.released.Statement.{statement}
 use Rattle.shaper.proofs.frame.released.Tie as tie
 

@@ -7,8 +7,10 @@ use Rattle.quantity.specs.Ranges.{inRange}
 use Rattle.quantity.specs.declared.Bits.{Bits}
 use Rattle.quantity.specs.declared.Item.the-variants.{Octets, Arrival}
 use Rattle.quantity.proofs.Booleans.{refuted, confirmed}
-use Rattle.shaper.specs.Sound.{sound}
-use Rattle.shaper.specs.Numbers.{isSetUp, aboveBurst, charged}
+use Rattle.records.specs.Sound.{sound}
+use Rattle.records.specs.Numbers.{isSetUp}
+use Rattle.shaper.specs.Numbers.{aboveBurst}
+use Rattle.quantity.specs.Charge.{charged}
 use Rattle.shaper.specs.declared.Tested.the-variants.{Charged}
 use Rattle.shaper.proofs.Judging.{test-10, test-9, test-11, test-12, test-13, test-14, none-refuses}
 use Rattle.shaper.proofs.frame.test_frame.Statement.{statement}

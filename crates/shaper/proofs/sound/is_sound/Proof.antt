@@ -6,9 +6,9 @@ use native.Mathlib.Omega.{arith}
 use Rattle.quantity.specs.Ranges.{inRange}
 use Rattle.quantity.specs.declared.Item.the-variants.{GroupId, StreamRate}
 use Rattle.quantity.proofs.Booleans.{refuted, confirmed}
-use Rattle.shaper.specs.Sound.{sound, soundGroup, soundRegulator}
-use Rattle.shaper.specs.declared.Regulator.{Regulator}
-use Rattle.shaper.proofs.Soundness.{group-ok}
+use Rattle.records.specs.Sound.{sound, soundGroup, soundRegulator}
+use Rattle.records.specs.declared.Regulator.{Regulator}
+use Rattle.records.proofs.Soundness.{group-ok}
 use Rattle.shaper.proofs.sound.is_sound.Statement.{statement}
 use Rattle.shaper.proofs.sound.is_sound.Tie as tie
 

@@ -13,10 +13,11 @@ use Rattle.quantity.specs.Ranges.{inRange, leastOf, mostOf}
 use Rattle.quantity.specs.declared.Item.the-variants.{StreamRate, Burst}
 use Rattle.quantity.proofs.Booleans.{refuted, confirmed}
 use Rattle.quantity.proofs.Ranges.{at-least, at-most}
-use Rattle.shaper.specs.ExactTime.{exactly, roundedUp, orZero}
+use Rattle.records.specs.ExactTime.{exactly, roundedUp, orZero}
 use Rattle.shaper.specs.Frame.{F}
-use Rattle.shaper.proofs.ExactTime.{not-before-first, ticks-most, sign}
-use Rattle.shaper.proofs.Soundness.{burst-out, part-out, empty-late, by-full}
+use Rattle.records.proofs.ExactTime.{not-before-first, ticks-most, sign}
+use Rattle.records.proofs.Soundness.{burst-out, part-out, empty-late}
+use Rattle.shaper.proofs.Buckets.{by-full}
 use Rattle.shaper.proofs.sound.sound_bucket.Statement.{statement}
 use Rattle.shaper.proofs.sound.sound_bucket.Tie as tie
 

@@ -1,0 +1,3 @@
+pub mod WideNumbers
+pub mod LentRecords
+pub mod Promises

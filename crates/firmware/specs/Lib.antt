@@ -1,0 +1,3 @@
+pub mod Firmware
+pub mod Steps
+pub mod Promises

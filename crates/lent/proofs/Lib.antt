@@ -1,0 +1,3 @@
+pub mod InPlaceLaws
+pub mod Walking
+pub mod Freeing

@@ -1,0 +1,5 @@
+pub mod Integers
+pub mod Machine
+pub mod ExactTime
+pub mod Soundness
+pub mod Fresh

@@ -1,0 +1,5 @@
+pub mod ExactTime
+pub mod Sound
+pub mod SetUp
+pub mod Numbers
+pub mod Steps
