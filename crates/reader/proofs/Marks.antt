@@ -10,10 +10,10 @@ use borrow.Author.Tests.{eqb-true}
 use lib.Dec.{eqb}
 use lib.ListN.{length, getD, drop, drop-of-length-le}
 use lib.Seq.{drop-cons}
-use Rattle.quantity.proofs.Booleans.{both}
 use Rattle.quantity.specs.declared.Refusal.the-variants.{UnknownMark, CutShort}
-use Rattle.reader.specs.declared.Reading.the-variants.{NothingLeft, Refused}
+use Rattle.quantity.proofs.Booleans.{both}
 use Rattle.tablefile.specs.Layout.{Kind, GR, GD, ST, FR, kinds, mark}
+use Rattle.reader.specs.declared.Reading.the-variants.{NothingLeft, Refused}
 use Rattle.reader.specs.Reader.{isMark, markedAmong, readFields, readMarked, readLeft, readAt}
 
 -- the marks differ, so a mark is found as its own kind

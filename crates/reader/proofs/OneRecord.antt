@@ -10,18 +10,18 @@ use borrow.Author.Tests.{ltb-false, le-ltb, eqb-true}
 use lib.Dec.{ltb, eqb}
 use lib.ListN.{length, getD, take, drop, length-append, length-drop, take-append-drop}
 use lib.Seq.{drop-append-seam, take-at, drop-at, take-add, take-append-add, drop-drop, length-take-le}
-use Rattle.quantity.proofs.Booleans.{both}
 use Rattle.quantity.specs.declared.Refusal.the-variants.{UnknownMark, CutShort}
+use Rattle.quantity.proofs.Booleans.{both}
 use Rattle.tablefile.specs.declared.Record.{Record}
 use Rattle.tablefile.specs.declared.Record.the-variants.{Group, GroupDefault, Stream, Frame}
-use Rattle.reader.specs.declared.Reading.{Reading}
-use Rattle.reader.specs.declared.Reading.the-variants.{Found, NothingLeft, Refused}
 use Rattle.tablefile.specs.BigEndian.{bigEndian, number, AreBytes}
 use Rattle.tablefile.specs.Layout.{Kind, GR, GD, ST, FR, kinds, markWidth, mark, widths, kindOf, numbersOf, recordOf, total, fieldBytes, fieldNumbers, Fit, no-field, and-field, Fits, bytesOf, size}
-use Rattle.reader.specs.Reader.{isMark, markedAmong, readFields, readMarked, readLeft, readAt}
-use Rattle.reader.specs.RoundTrip.{Whole}
 use Rattle.tablefile.proofs.Numbers.{length-bigEndian, number-bigEndian, bigEndian-number, number-below, bytes-take, bytes-drop}
 use Rattle.tablefile.proofs.Fields.{mark-is, mark-width, fields-size, bytes-size}
+use Rattle.reader.specs.declared.Reading.{Reading}
+use Rattle.reader.specs.declared.Reading.the-variants.{Found, NothingLeft, Refused}
+use Rattle.reader.specs.Reader.{isMark, markedAmong, readFields, readMarked, readLeft, readAt}
+use Rattle.reader.specs.RoundTrip.{Whole}
 
 -- ---- each kind
 

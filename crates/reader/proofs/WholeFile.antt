@@ -7,9 +7,9 @@ use native.Mathlib.Omega.{arith}
 use lib.ListN.{length, take, drop, length-append, length-drop}
 use lib.Seq.{take-add, drop-drop, take-all}
 use Rattle.tablefile.specs.declared.Record.{Record}
-use Rattle.reader.specs.declared.Reading.{Reading}
 use Rattle.tablefile.specs.BigEndian.{AreBytes}
 use Rattle.tablefile.specs.Layout.{bytesOf, size}
+use Rattle.reader.specs.declared.Reading.{Reading}
 use Rattle.reader.specs.Reader.{readAt}
 use Rattle.reader.specs.Answers.{nothingLeft}
 use Rattle.reader.specs.File.{fileOf, AllFit, no-record, and-record, Contents, onwards, answers, contentsFrom, contents}

@@ -4,9 +4,9 @@ use Prim.Native.Nat.{ℕ, zero, suc}
 use mathlib.Core.List.{List, [], _∷_, _++_}
 use lib.ListN.{length}
 use Rattle.tablefile.specs.declared.Record.{Record}
+use Rattle.tablefile.specs.Layout.{Fits, bytesOf}
 use Rattle.reader.specs.declared.Reading.{Reading}
 use Rattle.reader.specs.declared.Reading.the-variants.{Found, NothingLeft, Refused}
-use Rattle.tablefile.specs.Layout.{Fits, bytesOf}
 use Rattle.reader.specs.Reader.{readAt}
 use Rattle.reader.specs.Answers.{nothingLeft, readingNumber}
 

@@ -6,9 +6,9 @@ use mathlib.Core.Path.{_≡_}
 use mathlib.Core.List.{List, _++_}
 use lib.ListN.{length, take, drop}
 use Rattle.tablefile.specs.declared.Record.{Record}
-use Rattle.reader.specs.declared.Reading.the-variants.{Found}
 use Rattle.tablefile.specs.BigEndian.{AreBytes}
 use Rattle.tablefile.specs.Layout.{Fits, bytesOf}
+use Rattle.reader.specs.declared.Reading.the-variants.{Found}
 use Rattle.reader.specs.Reader.{readAt}
 use Rattle.reader.specs.Answers.{nothingLeft}
 use Rattle.reader.specs.File.{AllFit, Contents, fileOf, onwards, contentsFrom, contents}
