@@ -130,10 +130,10 @@ pub fn take_out(
     }
     let at = c * PLACES + place;
     let end = c * PLACES + n as usize;
+    fills[c] = n - 1;
     let time = close_up(times, at, end);
     let handle = close_up_handles(handles, at, end);
     let charge = close_up(bits, at, end);
-    fills[c] = n - 1;
     let entry = Entry {
         handle,
         time: Ticks(time),

@@ -37,6 +37,12 @@ cast-end c = search needs
 add-end : tie.Need-add-end
 add-end c = search needs
 
+sub-fills : tie.Need-sub-fills
+sub-fills c = search needs
+
+element-write-fills : tie.Need-element-write-fills
+element-write-fills c = search needs
+
 close-up-requires : tie.Need-close-up-requires
 close-up-requires c κs = search needs
 
@@ -45,12 +51,6 @@ close-up-handles-requires c κs = search needs
 
 close-up-requires-2 : tie.Need-close-up-requires-2
 close-up-requires-2 c κs = search needs
-
-sub-fills : tie.Need-sub-fills
-sub-fills c = search needs
-
-element-write-fills : tie.Need-element-write-fills
-element-write-fills c = search needs
 
 returns-4 : tie.Need-returns-4
 returns-4 c =
@@ -72,9 +72,9 @@ take-out-spec =
     mul-end
     cast-end
     add-end
+    sub-fills
+    element-write-fills
     close-up-requires
     close-up-handles-requires
     close-up-requires-2
-    sub-fills
-    element-write-fills
     returns-4)
