@@ -13,7 +13,7 @@ use Rattle.quantity.proofs.Booleans.{refuted, confirmed}
 use Rattle.text.specs.Decimal.{decimal}
 use Rattle.text.specs.Places.{Placed, placed}
 use Rattle.text.proofs.Stores.{fits}
-use Rattle.account.specs.Lines.{joined, space, lineEnd, pickWord, refusedWord, stopWord, nextWord, freeWord, eventsWord, picksWord, frameLine, pickLine, refusedLine, stopLine}
+use Rattle.account.specs.Lines.{joined, space, lineEnd, pickWord, refusedWord, stopWord, nextWord, freeWord, eventsWord, picksWord, frameLine, pickLine, refusedLine, stopLine, pairLine, countsTexts}
 use Rattle.account.specs.Puts.{puts}
 
 -- ---- one text after the other
@@ -71,13 +71,9 @@ what-is-left len at many h = go (leb many (len - at)) refl
     go true e = sym (le-leb (at + many) len (omega (arith, leb-true many (len - at) e)))
     go false e = sym (lt-leb (at + many) len (omega (arith, leb-false many (len - at) e)))
 
-pub frame-length : (place number : ℕ) → length (frameLine place number) ≡ length (decimal place) + length (decimal number) + 2
-unfolding frameLine joined
-frame-length place number = simp length-append (omega arith)
-
-pub pick-length : (handle moment : ℕ) → length (pickLine handle moment) ≡ length (decimal handle) + length (decimal moment) + 7
-unfolding pickLine joined
-pick-length handle moment = simp length-append (omega arith)
+pub pair-length : (word : List ℕ) (a b : ℕ) → length (pairLine word a b) ≡ length (decimal a) + length (decimal b) + (length word + 2)
+unfolding pairLine joined
+pair-length word a b = simp length-append (omega arith)
 
 pub refused-length : (number : ℕ) → length (refusedLine number) ≡ length (decimal number) + 9
 unfolding refusedLine joined
@@ -90,27 +86,25 @@ stop-length number next free events picks = simp length-append (omega arith)
 -- ---- a line that fits, put part by part; o and r are the bytes and the place after each part
 
 module _ (l : List ℕ) (at : ℕ) (x : Placed) where
-  pub frame-put : (place number : ℕ) (o₁ : List ℕ) (r₁ : ℕ) (o₂ : List ℕ) (r₂ : ℕ) → at + length (frameLine place number) ≤ length l
-      → record { next = r₁; bytes = o₁ } ≡ placed l at (decimal place)
-      → record { next = r₂; bytes = o₂ } ≡ puts o₁ r₁ (space ∷ decimal number ∷ [])
-      → x ≡ placed o₂ r₂ lineEnd → x ≡ placed l at (frameLine place number)
-  unfolding puts frameLine
-  frame-put place number o₁ r₁ o₂ r₂ h e₁ e₂ e₃ =
+  pub pair-put : (word : List ℕ) (a b : ℕ) (o₁ : List ℕ) (r₁ : ℕ) (o₂ : List ℕ) (r₂ : ℕ) → at + length (pairLine word a b) ≤ length l
+      → record { next = r₁; bytes = o₁ } ≡ puts l at (word ∷ decimal a ∷ [])
+      → record { next = r₂; bytes = o₂ } ≡ puts o₁ r₁ (space ∷ decimal b ∷ [])
+      → x ≡ placed o₂ r₂ lineEnd → x ≡ placed l at (pairLine word a b)
+  unfolding puts pairLine
+  pair-put word a b o₁ r₁ o₂ r₂ h e₁ e₂ e₃ =
       e₃
-      ∙ then-two o₁ o₂ r₁ r₂ space (decimal number) (lineEnd ∷ []) e₂
-      ∙ then-one l o₁ at r₁ (decimal place) (space ∷ decimal number ∷ lineEnd ∷ []) e₁
-      ∙ puts-fit (decimal place ∷ space ∷ decimal number ∷ lineEnd ∷ []) l at h
+      ∙ then-two o₁ o₂ r₁ r₂ space (decimal b) (lineEnd ∷ []) e₂
+      ∙ then-two l o₁ at r₁ word (decimal a) (space ∷ decimal b ∷ lineEnd ∷ []) e₁
+      ∙ puts-fit (word ∷ decimal a ∷ space ∷ decimal b ∷ lineEnd ∷ []) l at h
 
-  pub pick-put : (handle moment : ℕ) (o₁ : List ℕ) (r₁ : ℕ) (o₂ : List ℕ) (r₂ : ℕ) → at + length (pickLine handle moment) ≤ length l
-      → record { next = r₁; bytes = o₁ } ≡ puts l at (pickWord ∷ decimal handle ∷ [])
-      → record { next = r₂; bytes = o₂ } ≡ puts o₁ r₁ (space ∷ decimal moment ∷ [])
-      → x ≡ placed o₂ r₂ lineEnd → x ≡ placed l at (pickLine handle moment)
-  unfolding puts pickLine
-  pick-put handle moment o₁ r₁ o₂ r₂ h e₁ e₂ e₃ =
-      e₃
-      ∙ then-two o₁ o₂ r₁ r₂ space (decimal moment) (lineEnd ∷ []) e₂
-      ∙ then-two l o₁ at r₁ pickWord (decimal handle) (space ∷ decimal moment ∷ lineEnd ∷ []) e₁
-      ∙ puts-fit (pickWord ∷ decimal handle ∷ space ∷ decimal moment ∷ lineEnd ∷ []) l at h
+  -- a pair with no word is the line of a frame, and one with a pick's word that of a pick
+  pub frame-is-pair : (place number : ℕ) → x ≡ placed l at (pairLine [] place number) → x ≡ placed l at (frameLine place number)
+  unfolding pairLine frameLine joined
+  frame-is-pair place number e = e
+
+  pub pick-is-pair : (handle moment : ℕ) → x ≡ placed l at (pairLine pickWord handle moment) → x ≡ placed l at (pickLine handle moment)
+  unfolding pairLine pickLine
+  pick-is-pair handle moment e = e
 
   pub refused-put : (number : ℕ) (o₁ : List ℕ) (r₁ : ℕ) → at + length (refusedLine number) ≤ length l
       → record { next = r₁; bytes = o₁ } ≡ puts l at (refusedWord ∷ decimal number ∷ [])
@@ -121,25 +115,30 @@ module _ (l : List ℕ) (at : ℕ) (x : Placed) where
       ∙ then-two l o₁ at r₁ refusedWord (decimal number) (lineEnd ∷ []) e₁
       ∙ puts-fit (refusedWord ∷ decimal number ∷ lineEnd ∷ []) l at h
 
-  pub stop-put : (number next free events picks : ℕ) (o₁ : List ℕ) (r₁ : ℕ) (o₂ : List ℕ) (r₂ : ℕ) (o₃ : List ℕ) (r₃ : ℕ) (o₄ : List ℕ) (r₄ : ℕ) (o₅ : List ℕ) (r₅ : ℕ)
+  pub counts-put : (free events picks : ℕ) (o₁ : List ℕ) (r₁ : ℕ) (o₂ : List ℕ) (r₂ : ℕ) (o₃ : List ℕ) (r₃ : ℕ)
+      → record { next = r₁; bytes = o₁ } ≡ puts l at (freeWord ∷ decimal free ∷ [])
+      → record { next = r₂; bytes = o₂ } ≡ puts o₁ r₁ (eventsWord ∷ decimal events ∷ [])
+      → record { next = r₃; bytes = o₃ } ≡ puts o₂ r₂ (picksWord ∷ decimal picks ∷ [])
+      → x ≡ placed o₃ r₃ lineEnd → x ≡ puts l at (countsTexts free events picks)
+  unfolding puts
+  counts-put free events picks o₁ r₁ o₂ r₂ o₃ r₃ e₁ e₂ e₃ e₄ =
+      let p₂ = picksWord ∷ decimal picks ∷ lineEnd ∷ [] in
+      let p₁ = eventsWord ∷ decimal events ∷ p₂ in
+      e₄
+      ∙ then-two o₂ o₃ r₂ r₃ picksWord (decimal picks) (lineEnd ∷ []) e₃
+      ∙ then-two o₁ o₂ r₁ r₂ eventsWord (decimal events) p₂ e₂
+      ∙ then-two l o₁ at r₁ freeWord (decimal free) p₁ e₁
+
+  pub stop-put : (number next free events picks : ℕ) (o₁ : List ℕ) (r₁ : ℕ) (o₂ : List ℕ) (r₂ : ℕ)
       → at + length (stopLine number next free events picks) ≤ length l
       → record { next = r₁; bytes = o₁ } ≡ puts l at (stopWord ∷ decimal number ∷ [])
       → record { next = r₂; bytes = o₂ } ≡ puts o₁ r₁ (nextWord ∷ decimal next ∷ [])
-      → record { next = r₃; bytes = o₃ } ≡ puts o₂ r₂ (freeWord ∷ decimal free ∷ [])
-      → record { next = r₄; bytes = o₄ } ≡ puts o₃ r₃ (eventsWord ∷ decimal events ∷ [])
-      → record { next = r₅; bytes = o₅ } ≡ puts o₄ r₄ (picksWord ∷ decimal picks ∷ [])
-      → x ≡ placed o₅ r₅ lineEnd → x ≡ placed l at (stopLine number next free events picks)
+      → x ≡ puts o₂ r₂ (countsTexts free events picks) → x ≡ placed l at (stopLine number next free events picks)
   unfolding puts stopLine
-  stop-put number next free events picks o₁ r₁ o₂ r₂ o₃ r₃ o₄ r₄ o₅ r₅ h e₁ e₂ e₃ e₄ e₅ e₆ =
-      let p₅ = lineEnd ∷ [] in
-      let p₄ = picksWord ∷ decimal picks ∷ p₅ in
-      let p₃ = eventsWord ∷ decimal events ∷ p₄ in
-      let p₂ = freeWord ∷ decimal free ∷ p₃ in
+  stop-put number next free events picks o₁ r₁ o₂ r₂ h e₁ e₂ e₃ =
+      let p₂ = countsTexts free events picks in
       let p₁ = nextWord ∷ decimal next ∷ p₂ in
-      e₆
-      ∙ then-two o₄ o₅ r₄ r₅ picksWord (decimal picks) p₅ e₅
-      ∙ then-two o₃ o₄ r₃ r₄ eventsWord (decimal events) p₄ e₄
-      ∙ then-two o₂ o₃ r₂ r₃ freeWord (decimal free) p₃ e₃
+      e₃
       ∙ then-two o₁ o₂ r₁ r₂ nextWord (decimal next) p₂ e₂
       ∙ then-two l o₁ at r₁ stopWord (decimal number) p₁ e₁
       ∙ puts-fit (stopWord ∷ decimal number ∷ p₁) l at h

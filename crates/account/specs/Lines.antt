@@ -63,3 +63,13 @@ refusedLine number = joined (refusedWord ∷ decimal number ∷ lineEnd ∷ [])
 unfoldable pub stopLine : ℕ → ℕ → ℕ → ℕ → ℕ → List ℕ
 stopLine number next free events picks =
     joined (stopWord ∷ decimal number ∷ nextWord ∷ decimal next ∷ freeWord ∷ decimal free ∷ eventsWord ∷ decimal events ∷ picksWord ∷ decimal picks ∷ lineEnd ∷ [])
+
+-- ---- parts that the code puts together
+
+-- a word and two numbers: the answer to a frame is one with no word, a pick one with its own
+unfoldable pub pairLine : List ℕ → ℕ → ℕ → List ℕ
+pairLine word a b = joined (word ∷ decimal a ∷ space ∷ decimal b ∷ lineEnd ∷ [])
+
+-- the end of the line of a stop, text by text
+abbrev pub countsTexts : ℕ → ℕ → ℕ → List (List ℕ)
+countsTexts free events picks = freeWord ∷ decimal free ∷ eventsWord ∷ decimal events ∷ picksWord ∷ decimal picks ∷ lineEnd ∷ []
