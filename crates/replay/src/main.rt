@@ -47,6 +47,28 @@ struct Table {
     bridge: Bridge,
 }
 
+// ---- fresh lists. Each is a function's result, so that what uses it knows its length without unfolding its places.
+
+fn argument_bytes() -> [u8; ARGUMENT_BYTES] {
+    [0; ARGUMENT_BYTES]
+}
+
+fn list_of_u8() -> [u8; PLACES] {
+    [0; PLACES]
+}
+
+fn list_of_u16() -> [u16; PLACES] {
+    [0; PLACES]
+}
+
+fn list_of_u32() -> [u32; PLACES] {
+    [0; PLACES]
+}
+
+fn list_of_u64() -> [u64; PLACES] {
+    [0; PLACES]
+}
+
 // ---- what goes to standard error
 
 fn say(line: &[u8]) {
@@ -74,7 +96,7 @@ fn say_record(record: u64, what: &[u8], number: u8) {
 
 // The number that an argument is.
 fn argument(i: usize) -> Numeral {
-    let mut buf = [0u8; ARGUMENT_BYTES];
+    let mut buf = argument_bytes();
     let length = os::arg(i, &mut buf);
     text::number_in(&buf[..length])
 }
@@ -324,9 +346,9 @@ fn run_lists(
     rate: Rate,
     free: Ticks,
 ) {
-    let mut answers = [0u8; PLACES];
-    let mut picked = [0u32; PLACES];
-    let mut moments = [0u64; PLACES];
+    let mut answers = list_of_u8();
+    let mut picked = list_of_u32();
+    let mut moments = list_of_u64();
     let ran = line::run(
         bridge,
         waiting::empty(),
@@ -377,14 +399,22 @@ fn run_table(table: Table, arrivals: &[u64], ids: &[u8], octets: &[u16], rate: R
 
 // Reads the table file and, where the whole of it could be read, runs it.
 fn replay(rate: Rate, free: Ticks) {
-    let mut arrivals = [0u64; PLACES];
-    let mut ids = [0u8; PLACES];
-    let mut octets = [0u16; PLACES];
+    let mut arrivals = list_of_u64();
+    let mut ids = list_of_u8();
+    let mut octets = list_of_u16();
     let mut buf = io::large_buffer();
     let table = read_table(&mut buf, &mut arrivals, &mut ids, &mut octets);
     if table.whole {
         run_table(table, &arrivals, &ids, &octets, rate, free);
     }
+}
+
+// The moment that the line is free from.
+fn free_moment(arguments: usize) -> Numeral {
+    if arguments < 3 {
+        return Numeral::Is(0);
+    }
+    argument(2)
 }
 
 fn main() {
@@ -397,11 +427,7 @@ fn main() {
         say(b"replay: the line rate is no number\n");
         return;
     };
-    if count == 2 {
-        replay(Rate(rate), Ticks(0));
-        return;
-    }
-    let Numeral::Is(free) = argument(2) else {
+    let Numeral::Is(free) = free_moment(count) else {
         say(b"replay: line-free is no number\n");
         return;
     };
