@@ -23,6 +23,3 @@ begins l at h = record { inside = h; long = refl }
 -- a text put at such a place leads to such a place
 pub goes-on : {l₀ l : List ℕ} {at : ℕ} → Within l₀ l at → (at' : ℕ) → at' ≤ length l → (ts : List ℕ) (r : ℕ) (o : List ℕ) → record { next = r; bytes = o } ≡ placed l at' ts → Within l₀ o r
 goes-on {l₀} {l} w at' h ts r o e = let x = placed-within l at' ts r o e h in record { inside = x .0; long = x .1 ∙ w .long }
-
-pub puts-on : {l₀ l : List ℕ} {at : ℕ} → Within l₀ l at → (ts : List ℕ) (r : ℕ) (o : List ℕ) → record { next = r; bytes = o } ≡ placed l at ts → Within l₀ o r
-puts-on {l₀} {l} {at} w ts r o e = goes-on w at (w .inside) ts r o e

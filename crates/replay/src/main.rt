@@ -12,8 +12,9 @@ use quantity::Refusal;
 use quantity::Ticks;
 use text::Numeral;
 use yard::End;
+use yard::Gathered;
 ghost use mathlib.Core.Path.{_≡_};
-ghost use Prim.Native.Nat.{_≤_};
+ghost use Prim.Native.Nat.{_<_, _≤_};
 ghost use lib.ListN.{length};
 ghost use Rattle.io.specs.Counts.{Counts};
 
@@ -39,12 +40,18 @@ enum Next {
     GiveUp,
 }
 
-// A table file that was read: its bridge, and how many arrivals stand in the lists. Nothing is run where `whole` is
-// false.
+// A table file as far as it was read.
 struct Table {
-    whole: bool,
-    count: usize,
     bridge: Bridge,
+    // How many arrivals stand in the lists, and how many records there were.
+    count: usize,
+    records: u64,
+    // What is still to be gathered stands in the buffer from the one place up to the other.
+    from: usize,
+    have: usize,
+    ended: bool,
+    // It ended after a whole record. Else nothing is run.
+    whole: bool,
 }
 
 // ---- fresh lists. Each is a function's result, so that what uses it knows its length without unfolding its places.
@@ -75,21 +82,13 @@ fn say(line: &[u8]) {
     io::write_all(STDERR_FILENO, line);
 }
 
-// `record N: WHAT NUMBER` at the front of a line.
-fn put_note(line: &mut [u8], record: u64, what: &[u8], number: u8) -> usize
-    ensures { λ r. ⌜ Counts r (now (line .exit)) ⌝ }
-{
-    let after_record = text::put_text(line, 0, b"record ");
-    let after_place = text::put_decimal(line, after_record, record);
-    let after_what = text::put_text(line, after_place, what);
-    let after_number = text::put_decimal(line, after_what, number as u64);
-    text::put_byte(line, after_number, b'\n')
-}
-
+// `record N: WHAT NUMBER`
 fn say_record(record: u64, what: &[u8], number: u8) {
-    let mut line = io::buffer();
-    let end = put_note(&mut line, record, what, number);
-    say(&line[..end]);
+    say(b"record ");
+    io::print_decimal(STDERR_FILENO, record);
+    say(what);
+    io::print_decimal(STDERR_FILENO, number as u64);
+    say(b"\n");
 }
 
 // ---- the arguments
@@ -183,63 +182,118 @@ fn refill(buf: &mut [u8], from: usize, have: usize) -> Held
     read_more(buf, have - from)
 }
 
-// The end of the input: what is left of it is a record that is cut short.
-fn at_end(left: usize, records: u64, count: usize, bridge: Bridge) -> Table {
+// Whether the input has ended after a whole record. What is left of it at its end is one that is cut short.
+fn ends_whole(held: Held, left: usize, records: u64) -> bool {
+    if held.failed || held.have > left {
+        return false;
+    }
     if left > 0 {
         say_unreadable(Refusal::CutShort, records);
+        return false;
     }
+    true
+}
+
+// Reads on behind what is left. The reading ends where no more came, as where it failed.
+fn read_on(
+    buf: &mut [u8],
+    bridge: Bridge,
+    count: usize,
+    records: u64,
+    from: usize,
+    have: usize,
+) -> Table
+    requires { ⌜ (from ≤ have) × (have ≤ length (now buf)) ⌝ }
+    ensures { λ r. ⌜ (r .from ≤ r .have) × (r .have ≤ length (now (buf .exit))) ⌝ }
+{
+    let left = have - from;
+    let held = refill(buf, from, have);
     Table {
-        whole: left == 0,
-        count,
         bridge,
+        count,
+        records,
+        from: 0,
+        have: held.have,
+        ended: held.have <= left,
+        whole: ends_whole(held, left, records),
     }
 }
 
-// Reads the whole of standard input. What is still to be gathered stands in the buffer from `from` up to `have`.
-// A proved loop has to end, and nothing says that a file does: it counts its turns, from a number that no run uses up.
-fn read_table(buf: &mut [u8], arrivals: &mut [u64], ids: &mut [u8], octets: &mut [u16]) -> Table {
-    let mut bridge = bridge::fresh();
-    let mut count: usize = 0;
-    let mut records: u64 = 0;
-    let mut from: usize = 0;
-    let mut have: usize = 0;
-    let mut turns = u64::MAX;
-    while turns > 0 {
-        turns -= 1;
-        let part = yard::gather_part(&buf[from..have], bridge, arrivals, ids, octets, count);
-        let why = part.why;
-        let after = part.bridge;
-        bridge = after;
-        count = part.count;
-        from += part.at;
-        records = std::num::wrapping_add_u64(records, part.records as u64);
-        match after_part(why, records) {
-            Next::GoOn => {
-                continue;
-            }
-            Next::GiveUp => {
-                break;
-            }
-            Next::Refill => {
-                let left = have - from;
-                let held = refill(buf, from, have);
-                if held.failed {
-                    break;
-                }
-                from = 0;
-                have = held.have;
-                if have > left {
-                    continue;
-                }
-                return at_end(left, records, count, bridge);
-            }
-        }
+// Goes on from the end of a part.
+fn go_on(buf: &mut [u8], part: Gathered, records: u64, from: usize, have: usize) -> Table
+    requires { ⌜ (from ≤ have) × (have ≤ length (now buf)) ⌝ }
+    ensures { λ r. ⌜ (r .from ≤ r .have) × (r .have ≤ length (now (buf .exit))) ⌝ }
+{
+    let why = part.why;
+    let bridge = part.bridge;
+    let count = part.count;
+    let next = after_part(why, records);
+    if let Next::Refill = next {
+        return read_on(buf, bridge, count, records, from, have);
     }
     Table {
-        whole: false,
-        count,
         bridge,
+        count,
+        records,
+        from,
+        have,
+        ended: is_given_up(next),
+        whole: false,
     }
+}
+
+fn is_given_up(next: Next) -> bool {
+    match next {
+        Next::GiveUp => true,
+        _ => false,
+    }
+}
+
+// Gathers the part that the buffer holds, and goes on from its end.
+fn turn(
+    buf: &mut [u8],
+    arrivals: &mut [u64],
+    ids: &mut [u8],
+    octets: &mut [u16],
+    table: Table,
+) -> Table
+    requires { ⌜ (table .from ≤ table .have) × (table .have ≤ length (now buf)) ⌝ }
+    ensures { λ r. ⌜ (r .from ≤ r .have) × (r .have ≤ length (now (buf .exit))) ⌝ }
+{
+    let from = table.from;
+    let have = table.have;
+    let before = table.bridge;
+    let part = yard::gather_part(&buf[from..have], before, arrivals, ids, octets, table.count);
+    let records = std::num::wrapping_add_u64(table.records, part.records as u64);
+    go_on(buf, part, records, from + part.at, have)
+}
+
+// The turns that are left after one of them: none where the reading has ended.
+fn turns_after(turns: u64, ended: bool) -> u64
+    requires { ⌜ 0 < turns ⌝ }
+    ensures { λ r. ⌜ r < turns ⌝ }
+{
+    if ended { 0 } else { turns - 1 }
+}
+
+// Reads the whole of standard input. A proved loop has to end, and nothing says that a file does: it counts its turns,
+// from a number that no run uses up.
+fn read_table(buf: &mut [u8], arrivals: &mut [u64], ids: &mut [u8], octets: &mut [u16]) -> Table {
+    let mut table = Table {
+        bridge: bridge::fresh(),
+        count: 0,
+        records: 0,
+        from: 0,
+        have: 0,
+        ended: false,
+        whole: false,
+    };
+    let mut turns = u64::MAX;
+    while turns > 0 {
+        table = turn(buf, arrivals, ids, octets, table);
+        turns = turns_after(turns, table.ended);
+    }
+    table
 }
 
 // ---- standard output
