@@ -2,8 +2,8 @@
 use mathlib.Core.Path.{_≡_, refl, sym, ap, _∙_}
 use mathlib.Core.Bool.{Bool, true, false, cond}
 use mathlib.Core.List.{List, [], _∷_, _++_, append-assoc}
-use Prim.Native.Nat.{ℕ, zero, suc, _+_, _-_, _^_, _≤_, _<_}
-use native.Mathlib.Nat.{add-zero, add-assoc}
+use Prim.Native.Nat.{ℕ, zero, suc, _+_, _-_, _%_, _^_, _≤_, _<_}
+use native.Mathlib.Nat.{add-zero, add-assoc, div-one, mod-eq-of-lt}
 use native.Mathlib.Numerals.{add-one}
 use native.Mathlib.Omega.{arith}
 use lib.Dec.{ltb, leb}
@@ -15,7 +15,7 @@ use Rattle.report.specs.Listing.{endLine}
 use Rattle.report.specs.Parts.{lineRoom, endRoom}
 use borrow.Author.Tests.{lt-ltb, le-leb}
 use Rattle.quantity.proofs.Booleans.{cond-true}
-use Rattle.text.specs.Decimal.{fewest, digitCount, decimal}
+use Rattle.text.specs.Decimal.{digit, lastDigits, fewest, digitCount, decimal}
 use Rattle.text.specs.Places.{Placed, placed}
 use Rattle.text.proofs.Stores.{decimal-length}
 use Rattle.report.specs.Steps.{mostDigits, headRoom, Put}
@@ -132,3 +132,13 @@ line-short n letters a e h =
 pub end-line-short : (n : ℕ) → length (endLine n) ≤ endRoom
 unfolding endLine
 end-line-short n = omega (arith, length-append (decimal n) (newline ∷ []), decimal-short n)
+
+-- ---- a number of one digit
+
+pub one-digit : (n : ℕ) → n < 10 → (48 + n) ∷ [] ≡ decimal n
+unfolding digit lastDigits fewest digitCount decimal
+one-digit n h =
+    sym
+    (ap (λ (k : ℕ). lastDigits k n) (cond-true (ltb n 10) 1 (fewest 18 2 n) (lt-ltb n 10 h))
+    ∙ ap (λ (q : ℕ). (48 + q % 10) ∷ []) (div-one n)
+    ∙ ap (λ (q : ℕ). (48 + q) ∷ []) (mod-eq-of-lt h))

@@ -13,7 +13,7 @@ use Rattle.reader.specs.declared.Reading.{Reading}
 use Rattle.reader.specs.declared.Reading.the-variants.{Found}
 use Rattle.tablefile.proofs.Fields.{mark-width}
 use Rattle.reader.proofs.OneRecord.{Front, whole, front}
-use Rattle.bridge.specs.History.{Call, Reply, reply, afterCall}
+use Rattle.bridge.specs.History.{Reply, reply, afterCall}
 use Rattle.bridge.specs.declared.Bridge.{Bridge}
 use Rattle.report.specs.Lines.{callOf, lineOf, recordLine}
 use Rattle.report.specs.Parts.{lineRoom, mostLines, Part, onto, mayGoOn, goingOn, stopsAt, partFor, partOf, ListedPart, listedOf, partPut, partListed}
@@ -54,14 +54,14 @@ unfolding onto
 onto-onto a b x = rw (append-assoc a b (x .text))
 
 -- the line that was put is the record's
-own-line : (b : Bridge) (n : ℕ) (r : Record) (next : ℕ) (x : Reading) (call : Call) (letters : Letters) (a : Answered)
-    → x ≡ Found r next → callOf r ≡ call → letters ≡ lettersOf x → replyOf a ≡ reply b call
+own-line : (b : Bridge) (n : ℕ) (r : Record) (next : ℕ) (x : Reading) (letters : Letters) (a : Answered)
+    → x ≡ Found r next → letters ≡ lettersOf x → replyOf a ≡ reply b (callOf r)
     → lineOf (n + 1) (letters .0 ∷ letters .1 ∷ []) (replyOf a) ≡ recordLine b n r
 unfolding recordLine lettersOf
-own-line b n r next x call letters a e f g h =
+own-line b n r next x letters a e g h =
     ap (λ (t : Letters). lineOf (n + 1) (t .0 ∷ t .1 ∷ []) (replyOf a)) (g ∙ ap lettersOf e)
     ∙ ap (λ (m : List ℕ). lineOf (n + 1) m (replyOf a)) (mark-letters r)
-    ∙ ap (lineOf (n + 1) (mark (kindOf r))) (h ∙ ap (reply b) (sym f))
+    ∙ ap (lineOf (n + 1) (mark (kindOf r))) h
 
 -- ---- under way
 
@@ -118,31 +118,29 @@ module _ (bytes out₀ : List ℕ) (b₀ : Bridge) (n₀ : ℕ) (b : Bridge) (n 
       ∙ sym (ap (partPut out₀) done)
 
   -- a record's line was put, and its call made
-  module _ (x : Reading) (at-place : x ≡ readAt bytes p) (call : Call) (next : ℕ) (g : Going x n (length out - w) call next) where
+  module _ (x : Reading) (at-place : x ≡ readAt bytes p) (r : Record) (next : ℕ) (g : Going x n (length out - w) r next) where
     pub goes-further : (p < next) × (next ≤ length bytes)
-    goes-further = found-further bytes p (g .made) next (sym at-place ∙ g .found)
+    goes-further = found-further bytes p r next (sym at-place ∙ g .found)
 
-    turned : (more : ℕ) → length bytes < p + more → (b' : Bridge) → b' ≡ afterCall b call → (line : List ℕ) → line ≡ recordLine b n (g .made) → (w' : ℕ) → w' ≡ w + length line
+    turned : (more : ℕ) → length bytes < p + more → (b' : Bridge) → b' ≡ afterCall b (callOf r) → (line : List ℕ) → line ≡ recordLine b n r → (w' : ℕ) → w' ≡ w + length line
         → (k : ℕ) × (length bytes < next + k) × (partFor more bytes (length out₀ - w) b n p ≡ onto line (partFor k bytes (length out₀ - w') b' (n + 1) next))
     turned zero h b' e line f w' i = absurd (omega (arith, goes-further .0, goes-further .1))
     turned (suc more) h b' e line f w' i =
-        let r = g .made in
-        let after : b' ≡ afterCall b (callOf r) = e ∙ ap (afterCall b) (sym (g .called)) in
         let left : length out₀ - w - length line ≡ length out₀ - w' = omega arith in (
           more,
           omega (arith, goes-further .0),
           one-more more bytes (length out₀ - w) b n p r next (sym at-place ∙ g .found) (omega (arith, g .roomy, room-left)) (g .counts)
               ∙ ap (λ (l : List ℕ). onto l (partFor more bytes (length out₀ - w - length l) (afterCall b (callOf r)) (n + 1) next)) (sym f)
-              ∙ ap (λ (q : Bridge). onto line (partFor more bytes (length out₀ - w - length line) q (n + 1) next)) (sym after)
+              ∙ ap (λ (q : Bridge). onto line (partFor more bytes (length out₀ - w - length line) q (n + 1) next)) (sym e)
               ∙ ap (λ (k : ℕ). onto line (partFor more bytes k b' (n + 1) next)) left,
         )
 
-    pub turns : (b' : Bridge) → b' ≡ afterCall b call → (letters : Letters) → letters ≡ lettersOf x → (a : Answered) → replyOf a ≡ reply b call
+    pub turns : (b' : Bridge) → b' ≡ afterCall b (callOf r) → (letters : Letters) → letters ≡ lettersOf x → (a : Answered) → replyOf a ≡ reply b (callOf r)
         → {w' : ℕ} {out' : List ℕ} → Put out w (lineOf (n + 1) (letters .0 ∷ letters .1 ∷ []) (replyOf a)) w' out' × (w' ≤ w + lineRoom)
         → Underway bytes out₀ b₀ n₀ b' (n + 1) next w' out'
     turns b' e letters f a h {w'} {out'} q =
         let line = lineOf (n + 1) (letters .0 ∷ letters .1 ∷ []) (replyOf a) in
-        let t = turned (u .more) (u .enough) b' e line (own-line b n (g .made) next x call letters a (g .found) (g .called) f h) w' (q .0 .ends) in
+        let t = turned (u .more) (u .enough) b' e line (own-line b n r next x letters a (g .found) f h) w' (q .0 .ends) in
         let p' = put-then (u .text) line (u .put) (q .0) in
         record {
           more = t .0;

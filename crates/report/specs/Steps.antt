@@ -10,21 +10,27 @@ use Rattle.quantity.specs.Numbers.{numberOf}
 use Rattle.records.specs.Numbers.{answerNumber}
 use Rattle.records.specs.declared.Answer.{Answer}
 use Rattle.records.specs.declared.Answer.the-variants as answer
+use Rattle.records.specs.declared.Group.{Group}
+use Rattle.records.specs.declared.Stream.{Stream}
+use Rattle.shaper.specs.declared.Judged.{Judged}
 use Rattle.bridge.specs.History.{Call, group, stream, frame, Reply}
 use Rattle.calls.specs.Numbers.{setUpNumber}
+use Rattle.calls.specs.Calls.{groupPlaced, streamPlaced, judgedAt}
 use Rattle.calls.specs.declared.SetUp.{SetUp}
+use Rattle.calls.specs.declared.PlacedGroup.{PlacedGroup}
+use Rattle.calls.specs.declared.PlacedStream.{PlacedStream}
 use Rattle.tablefile.specs.Layout.{mark, kindOf}
-use Rattle.tablefile.specs.declared.Record.{Record}
 use Rattle.reader.specs.declared.Reading.{Reading}
 use Rattle.reader.specs.declared.Reading.the-variants.{Found, NothingLeft, Refused}
-use Rattle.report.specs.Lines.{callOf, dash}
+use Rattle.report.specs.Lines.{dash}
 use Rattle.report.specs.Parts.{mayGoOn}
 use Rattle.report.specs.declared.Shown.{Shown}
 use Rattle.report.specs.declared.Shown.the-variants.{Time, Dash}
 use Rattle.report.specs.declared.Answered.{Answered}
 use Rattle.report.specs.declared.Letters.{Letters}
 use Rattle.report.specs.declared.Step.{Step}
-use Rattle.report.specs.declared.Step.the-variants.{Ends, Group, Stream, Frame}
+use Rattle.report.specs.declared.Step.the-variants.{Ends, Goes}
+use Rattle.report.specs.declared.Carried.{Carried}
 
 -- the most digits of a number of 64 bits; the most characters of a line up to its letters and the space after them, and from there to its end
 abbrev pub mostDigits : ℕ
@@ -70,15 +76,35 @@ lettersOf (Refused why) = record { 0 = dash; 1 = dash }
 
 -- ---- steps
 
-unfoldable pub stepFor : Call → ℕ → Step
-stepFor (group i c M) next = Group i c (record { 0 = M }) next
-stepFor (stream i k r u) next = Stream i k (record { 0 = r }) (record { 0 = u }) next
-stepFor (frame i n A) next = Frame i n (record { 0 = A }) next
-
-unfoldable pub stepOf : Record → ℕ → Step
-stepOf r next = stepFor (callOf r) next
-
 unfoldable pub nextStep : Reading → ℕ → ℕ → Step
-nextStep (Found r next) n room = cond (mayGoOn n room) (stepOf r next) (Ends (Found r next))
+nextStep (Found r next) n room = cond (mayGoOn n room) (Goes r next) (Ends (Found r next))
 nextStep NothingLeft n room = Ends NothingLeft
 nextStep (Refused why) n room = Ends (Refused why)
+
+-- ---- a call on the stream and the group that it looks at
+
+-- their ids; a group's set-up looks at no stream and leaves stream 0, a frame's group is its stream's, home
+unfoldable pub streamOf : Call → ℕ
+streamOf (group i c M) = 0
+streamOf (stream i k r u) = i
+streamOf (frame i n A) = i
+
+unfoldable pub groupOf : Call → ℕ → ℕ
+groupOf (group i c M) home = i
+groupOf (stream i k r u) home = k
+groupOf (frame i n A) home = home
+
+-- a group's set-up leaves the stream s, a stream's the group g
+unfoldable pub groupCarried : Stream → PlacedGroup → Carried
+groupCarried s x = record { answer = setUpAnswer (x .answer); stream = s; group = x .group }
+
+unfoldable pub streamCarried : Group → PlacedStream → Carried
+streamCarried g x = record { answer = setUpAnswer (x .answer); stream = x .stream; group = g }
+
+unfoldable pub frameCarried : Judged → Carried
+frameCarried x = record { answer = frameAnswer (x .answer); stream = x .stream; group = x .group }
+
+unfoldable pub carriedOut : Call → Stream → Group → Carried
+carriedOut (group i c M) s g = groupCarried s (groupPlaced i g c M)
+carriedOut (stream i k r u) s g = streamCarried g (streamPlaced i s k g r u)
+carriedOut (frame i n A) s g = frameCarried (judgedAt i s g n A)

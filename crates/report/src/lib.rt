@@ -9,17 +9,21 @@ use quantity::Refusal;
 use quantity::Ticks;
 use reader::Reading;
 use records::Answer;
+use records::Group;
+use records::Stream;
 use tablefile::Record;
 ghost use mathlib.Core.Path.{_≡_};
 ghost use mathlib.Core.List.{[], _∷_, _++_};
 ghost use Prim.Native.Nat.{_+_, _≤_, _<_};
 ghost use lib.ListN.{length};
 ghost use Rattle.quantity.specs.Numbers.{numberOf};
+ghost use Rattle.calls.specs.Calls.{groupPlaced, streamPlaced, judgedAt};
 ghost use Rattle.text.specs.Decimal.{decimal};
-ghost use Rattle.report.specs.Lines.{space, newline, column, lineOf};
+ghost use Rattle.text.specs.Places.{placed};
+ghost use Rattle.report.specs.Lines.{callOf, space, newline, column, lineOf};
 ghost use Rattle.report.specs.Listing.{endLine, ending};
 ghost use Rattle.report.specs.Parts.{lineRoom, endRoom, mostLines, partListed, endPut};
-ghost use Rattle.report.specs.Steps.{mostDigits, headRoom, tailRoom, Put, valuesOf, replyOf, setUpAnswer, frameAnswer, lettersOf, stepOf, nextStep};
+ghost use Rattle.report.specs.Steps.{mostDigits, headRoom, tailRoom, Put, valuesOf, replyOf, setUpAnswer, frameAnswer, lettersOf, nextStep, streamOf, groupOf, groupCarried, streamCarried, frameCarried, carriedOut};
 
 // No line is longer: 20 digits, a space, two letters, a space, three digits, a space, 20 digits, and the line's end.
 pub const LINE_ROOM: usize = 49;
@@ -30,7 +34,7 @@ pub const END_ROOM: usize = 25;
 // The lines are counted up to this one.
 pub const MOST_LINES: u64 = 18_446_744_073_709_551_615;
 
-// The last column of a line. Public, with the three types that follow, for definitions of other crates.
+// The last column of a line. Public, with the four types that follow, for definitions of other crates.
 pub enum Shown {
     Time(Ticks),
     Dash,
@@ -45,29 +49,17 @@ pub struct Answered {
 // The second column of a line.
 pub struct Letters(pub u8, pub u8);
 
-// What the listing does next: it ends with what the reader gave, or makes a record's call; `next` is the place after the
-// record.
+// What a record's call answers, and the stream and the group that it looked at, as it leaves them.
+pub struct Carried {
+    pub answer: Answered,
+    pub stream: Stream,
+    pub group: Group,
+}
+
+// What the listing does next: it ends with what the reader gave, or carries out a record; `next` is the place after it.
 pub enum Step {
     Ends(Reading),
-    Group {
-        id: u8,
-        class: u8,
-        residence: Ticks,
-        next: usize,
-    },
-    Stream {
-        id: u8,
-        group: u8,
-        rate: Rate,
-        burst: Bits,
-        next: usize,
-    },
-    Frame {
-        id: u8,
-        octets: u16,
-        arrival: Ticks,
-        next: usize,
-    },
+    Goes { record: Record, next: usize },
 }
 
 // The listing of a part of a file.
@@ -128,52 +120,6 @@ fn letters_of(reading: Reading) -> Letters
     }
 }
 
-// The call that a record stands for.
-fn step_of(given: Record, next: usize) -> Step
-    ensures { λ r. ⌜ r ≡ stepOf given next ⌝ }
-{
-    match given {
-        Record::Group {
-            group,
-            class,
-            residence,
-        } => Step::Group {
-            id: group,
-            class,
-            residence,
-            next,
-        },
-        Record::GroupDefault { group, class } => Step::Group {
-            id: group,
-            class,
-            residence: Ticks(tablefile::DEFAULT_RESIDENCE),
-            next,
-        },
-        Record::Stream {
-            stream,
-            group,
-            rate,
-            burst,
-        } => Step::Stream {
-            id: stream,
-            group,
-            rate,
-            burst: Bits(burst as u64),
-            next,
-        },
-        Record::Frame {
-            stream,
-            octets,
-            arrival,
-        } => Step::Frame {
-            id: stream,
-            octets,
-            arrival,
-            next,
-        },
-    }
-}
-
 // Goes on where a record is found, a line has room and its number fits.
 fn next_step(reading: Reading, count: u64, room: usize) -> Step
     ensures { λ r. ⌜ r ≡ nextStep reading count room ⌝ }
@@ -186,10 +132,114 @@ fn next_step(reading: Reading, count: u64, room: usize) -> Step
             if count >= MOST_LINES {
                 return Step::Ends(reading);
             }
-            step_of(record, next)
+            Step::Goes { record, next }
         }
         Reading::NothingLeft => Step::Ends(reading),
         Reading::Refused(_) => Step::Ends(reading),
+    }
+}
+
+// ---- a record's call, on the stream and the group that it looks at
+
+// The stream that a record's call looks at. A group's set-up looks at none, and leaves stream 0.
+fn stream_of(given: Record) -> u8
+    ensures { λ r. ⌜ r ≡ streamOf (callOf given) ⌝ }
+{
+    match given {
+        Record::Group { .. } => 0,
+        Record::GroupDefault { .. } => 0,
+        Record::Stream { stream, .. } => stream,
+        Record::Frame { stream, .. } => stream,
+    }
+}
+
+// The group that it looks at: a frame's is its stream's, `home`.
+fn group_of(given: Record, home: u8) -> u8
+    ensures { λ r. ⌜ r ≡ groupOf (callOf given) home ⌝ }
+{
+    match given {
+        Record::Group { group, .. } => group,
+        Record::GroupDefault { group, .. } => group,
+        Record::Stream { group, .. } => group,
+        Record::Frame { .. } => home,
+    }
+}
+
+fn carry_group(id: u8, class: u8, residence: Ticks, stream: Stream, group: Group) -> Carried
+    ensures { λ r. ⌜ r ≡ groupCarried stream (groupPlaced id group class (residence .0)) ⌝ }
+{
+    let placed = calls::place_group(id, group, class, residence);
+    let after = placed.group;
+    let outcome = placed.answer;
+    let answer = set_up_answer(outcome);
+    Carried {
+        answer,
+        stream,
+        group: after,
+    }
+}
+
+fn carry_stream(
+    id: u8,
+    in_group: u8,
+    rate: Rate,
+    burst: Bits,
+    stream: Stream,
+    group: Group,
+) -> Carried
+    ensures { λ r. ⌜ r ≡ streamCarried group (streamPlaced id stream «in_group» group (rate .0) (burst .0)) ⌝ }
+{
+    let placed = calls::place_stream(id, stream, in_group, group, rate, burst);
+    let after = placed.stream;
+    let outcome = placed.answer;
+    let answer = set_up_answer(outcome);
+    Carried {
+        answer,
+        stream: after,
+        group,
+    }
+}
+
+fn carry_frame(id: u8, octets: u16, arrival: Ticks, stream: Stream, group: Group) -> Carried
+    ensures { λ r. ⌜ r ≡ frameCarried (judgedAt id stream group octets (arrival .0)) ⌝ }
+{
+    let judged = calls::judge_at(id, stream, group, octets, arrival);
+    let stream_after = judged.stream;
+    let group_after = judged.group;
+    let outcome = judged.answer;
+    let answer = frame_answer(outcome);
+    Carried {
+        answer,
+        stream: stream_after,
+        group: group_after,
+    }
+}
+
+// Makes a record's call.
+fn carry_out(given: Record, stream: Stream, group: Group) -> Carried
+    ensures { λ r. ⌜ r ≡ carriedOut (callOf given) stream group ⌝ }
+{
+    match given {
+        Record::Group {
+            group: id,
+            class,
+            residence,
+        } => carry_group(id, class, residence, stream, group),
+        Record::GroupDefault { group: id, class } => {
+            let residence = Ticks(tablefile::DEFAULT_RESIDENCE);
+            carry_group(id, class, residence, stream, group)
+        }
+        Record::Stream {
+            stream: id,
+            group: in_group,
+            rate,
+            burst,
+        } => carry_stream(id, in_group, rate, Bits(burst as u64), stream, group),
+        Record::Frame {
+            stream: id,
+            octets,
+            arrival,
+        } => carry_frame(id, octets, arrival, stream, group),
     }
 }
 
@@ -222,12 +272,22 @@ fn put_shown(out: &mut [u8], at: usize, time: Shown) -> usize
     }
 }
 
+// The number returned. Most are of one digit, which needs no count of digits.
+fn put_number(out: &mut [u8], at: usize, number: u8) -> usize
+    ensures { λ r. ⌜ record { next = r; bytes = now (out .exit) } ≡ placed (now (out .entry)) at (decimal number) ⌝ }
+{
+    if number < 10 {
+        return text::put_byte(out, at, b'0' + number);
+    }
+    text::put_decimal(out, at, number as u64)
+}
+
 // The number returned and the last column, to the line's end.
 fn put_tail(out: &mut [u8], at: usize, number: u8, time: Shown) -> usize
     requires { ⌜ at + tailRoom ≤ length (now out) ⌝ }
     ensures { λ r. ⌜ Put (now (out .entry)) at (decimal number ++ (space ∷ (column (valuesOf time) ++ (newline ∷ [])))) r (now (out .exit)) × (r ≤ at + tailRoom) ⌝ }
 {
-    let after = text::put_decimal(out, at, number as u64);
+    let after = put_number(out, at, number);
     out[after] = b' ';
     let last = put_shown(out, after + 1, time);
     out[last] = b'\n';
@@ -268,58 +328,16 @@ pub fn list_part(bytes: &[u8], bridge: Bridge, count: u64, out: &mut [u8]) -> Li
                     written,
                 };
             }
-            Step::Group {
-                id,
-                class,
-                residence,
-                next,
-            } => {
-                let of = calls::group_place(id);
-                let placed = calls::place_group(id, groups[of], class, residence);
-                let after = placed.group;
-                let outcome = placed.answer;
-                let answer = set_up_answer(outcome);
-                groups[of] = after;
-                lines += 1;
-                written = put_line(out, written, lines, letters_of(reading), answer);
-                place = next;
-                continue;
-            }
-            Step::Stream {
-                id,
-                group,
-                rate,
-                burst,
-                next,
-            } => {
-                let at = calls::stream_place(id);
-                let of = calls::group_place(group);
-                let placed = calls::place_stream(id, streams[at], group, groups[of], rate, burst);
-                let after = placed.stream;
-                let outcome = placed.answer;
-                let answer = set_up_answer(outcome);
-                streams[at] = after;
-                lines += 1;
-                written = put_line(out, written, lines, letters_of(reading), answer);
-                place = next;
-                continue;
-            }
-            Step::Frame {
-                id,
-                octets,
-                arrival,
-                next,
-            } => {
-                let at = calls::stream_place(id);
+            Step::Goes { record, next } => {
+                let at = calls::stream_place(stream_of(record));
                 let stream = streams[at];
-                let of = calls::group_place(stream.group);
-                let judged = calls::judge_at(id, stream, groups[of], octets, arrival);
-                let stream_after = judged.stream;
-                let group_after = judged.group;
-                let outcome = judged.answer;
-                let answer = frame_answer(outcome);
-                streams[at] = stream_after;
+                let of = calls::group_place(group_of(record, stream.group));
+                let carried = carry_out(record, stream, groups[of]);
+                let stream_after = carried.stream;
+                let group_after = carried.group;
+                let answer = carried.answer;
                 groups[of] = group_after;
+                streams[at] = stream_after;
                 lines += 1;
                 written = put_line(out, written, lines, letters_of(reading), answer);
                 place = next;

@@ -18,9 +18,6 @@ returns c = let x = c .before .before in let a = x .before .before .args in no-r
 returns-2 : tie.Need-returns-2
 returns-2 c = let x = c .before .before .before in let a = x .before .before .args in no-number (a .reading) _ _ (a .count) (a .room) (x .reading .given .1) (omega arith)
 
-step-of-requires : tie.Need-step-of-requires
-step-of-requires c κs = search needs
-
 enum-told : tie.Need-enum-told
 enum-told c = search needs
 
@@ -28,7 +25,7 @@ enum-told-2 : tie.Need-enum-told-2
 enum-told-2 c = search needs
 
 returns-3 : tie.Need-returns-3
-returns-3 c = let x = c .before .before .before .before in let a = x .before .before .args in c .step-of .ensures ∙ goes (a .reading) _ _ (a .count) (a .room) (x .reading .given .1) (omega arith) (omega arith)
+returns-3 c = let x = c .before .before .before in let a = x .before .before .args in goes (a .reading) _ _ (a .count) (a .room) (x .reading .given .1) (omega arith) (omega arith)
 
 returns-4 : tie.Need-returns-4
 unfolding nextStep
@@ -45,7 +42,6 @@ next-step-spec =
     enum-known-reading
     returns
     returns-2
-    step-of-requires
     enum-told
     enum-told-2
     returns-3

@@ -13,22 +13,22 @@ use Rattle.report.proofs.Texts.{put-then, put-length, put-byte-decimal,
 use Rattle.report.proofs.put_tail.Statement.{statement}
 use Rattle.report.proofs.put_tail.Tie as tie
 
-put-decimal-requires : tie.Need-put-decimal-requires
-put-decimal-requires c κs = search needs
+put-number-requires : tie.Need-put-number-requires
+put-number-requires c κs = search needs
 
 -- the places behind the number, for a space, the last column and the line's end
-room : (c : tie.After-put-decimal) → c .put-decimal .result + 22 ≤ length (c .put-decimal .last .0)
+room : (c : tie.After-put-number) → c .put-number .result + 22 ≤ length (c .put-number .last .0)
 room c =
     let s = c .before .before .before in
     let a = s .args in
-    byte-room (a .out .now) (c .put-decimal .last .0) (a .at) (c .put-decimal .result) (a .number) 22 (omega (arith, s .fits .number)) (omega arith) (c .put-decimal .ensures)
+    byte-room (a .out .now) (c .put-number .last .0) (a .at) (c .put-number .result) (a .number) 22 (omega (arith, s .fits .number)) (omega arith) (c .put-number .ensures)
 
 -- and behind the last column
 last-room : (c : tie.After-put-shown) → c .put-shown .result + 1 ≤ length (c .put-shown .last .0)
 last-room c =
     let d = c .before .before .before .before in
     let p = c .put-shown .ensures in
-    omega (arith, p .ends, put-length _ p, length-set (d .put-decimal .last .0) (d .put-decimal .result) space, room d, column-short (valuesOf (d .before .before .before .args .time)))
+    omega (arith, p .ends, put-length _ p, length-set (d .put-number .last .0) (d .put-number .result) space, room d, column-short (valuesOf (d .before .before .before .args .time)))
 
 slice-write-out : tie.Need-slice-write-out
 slice-write-out c = omega (arith, room (c .before .before))
@@ -49,7 +49,7 @@ returns c =
     let b = d .before .before .before in
     let a = b .args in
     let p = s .put-shown .ensures in
-    let front = put-byte-decimal (a .out .now) (d .put-decimal .last .0) (a .at) (d .put-decimal .result) (a .number) (omega (arith, b .fits .number)) (omega arith) (d .put-decimal .ensures) in (
+    let front = put-byte-decimal (a .out .now) (d .put-number .last .0) (a .at) (d .put-number .result) (a .number) (omega (arith, b .fits .number)) (omega arith) (d .put-number .ensures) in (
       put-then (decimal (a .number)) (space ∷ (column (valuesOf (a .time)) ++ (newline ∷ []))) front
           (put-then (space ∷ []) (column (valuesOf (a .time)) ++ (newline ∷ [])) (record { ends = refl; stands = refl })
           (put-then (column (valuesOf (a .time))) (newline ∷ []) p (record { ends = refl; stands = refl }))),
@@ -66,7 +66,7 @@ pub put-tail-spec : {M : Type 1} → statement M
 put-tail-spec =
     tie.close
     (tie.spec
-    put-decimal-requires
+    put-number-requires
     slice-write-out
     add-put-shown
     put-shown-requires
