@@ -173,7 +173,10 @@ fn try_pick(what: &[u8], places: Waiting, moment: u64) {
 // ---- the table file
 
 fn try_read(what: &[u8], bytes: &[u8]) {
-    say(what, reader::reading_number(reader::read(bytes, 0)) as u64);
+    say(
+        what,
+        tablefile::reading_number(reader::read(bytes, 0)) as u64,
+    );
 }
 
 fn try_short_part() {
@@ -181,7 +184,7 @@ fn try_short_part() {
     let written = writer::write(Record::GroupDefault { group: 0, class: 0 }, &mut part);
     say(
         b"three bytes for a GD:",
-        writer::written_number(written) as u64,
+        tablefile::written_number(written) as u64,
     );
 }
 

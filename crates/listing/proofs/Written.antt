@@ -6,7 +6,7 @@ use native.Mathlib.Omega.{arith}
 use lib.ListN.{length, take}
 use lib.Seq.{sets, length-sets, length-take-le}
 use Rattle.text.specs.Places.{Placed}
-use Rattle.reader.specs.declared.Reading.{Reading}
+use Rattle.tablefile.specs.declared.Reading.{Reading}
 use Rattle.bridge.specs.declared.Bridge.{Bridge}
 use Rattle.report.specs.Parts.{Part, partOf, ListedPart, listedOf, partPut, partListed, endPut}
 use Rattle.report.specs.declared.Listed.{Listed}

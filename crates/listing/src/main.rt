@@ -4,7 +4,7 @@ use bridge::Bridge;
 use libc::STDIN_FILENO;
 use libc::STDOUT_FILENO;
 use quantity::Refusal;
-use reader::Reading;
+use tablefile::Reading;
 ghost use mathlib.Core.Path.{_≡_};
 ghost use Prim.Native.Nat.{_+_, _-_, _≤_};
 ghost use lib.ListN.{length, take, drop};

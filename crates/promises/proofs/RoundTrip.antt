@@ -12,11 +12,11 @@ use Rattle.quantity.specs.declared.Refusal.{Refusal}
 use Rattle.quantity.specs.declared.Refusal.the-variants.{NoRoom}
 use Rattle.tablefile.specs.declared.Record.{Record}
 use Rattle.tablefile.specs.Layout.{Fits, bytesOf}
-use Rattle.reader.specs.declared.Reading.the-variants.{Found}
+use Rattle.tablefile.specs.declared.Reading.the-variants.{Found}
 use Rattle.reader.specs.Reader.{readAt}
 use Rattle.reader.proofs.OneRecord.{found-length}
 use Rattle.reader.proofs.RoundTrip.{reads-back, writes-back}
-use Rattle.writer.specs.declared.Written.the-variants.{Bytes, Refused}
+use Rattle.tablefile.specs.declared.Written.the-variants.{Bytes, Refused}
 use Rattle.writer.specs.Writer.{writeOf, writeTo}
 use Rattle.promises.specs.RoundTrip.{WrittenIsRead, ReadIsWritten, RefusedStays}
 

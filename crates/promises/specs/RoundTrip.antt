@@ -8,9 +8,9 @@ use Rattle.quantity.specs.declared.Refusal.{Refusal}
 use Rattle.tablefile.specs.declared.Record.{Record}
 use Rattle.tablefile.specs.BigEndian.{AreBytes}
 use Rattle.tablefile.specs.Layout.{Fits}
-use Rattle.reader.specs.declared.Reading.the-variants.{Found}
+use Rattle.tablefile.specs.declared.Reading.the-variants.{Found}
 use Rattle.reader.specs.Reader.{readAt}
-use Rattle.writer.specs.declared.Written.the-variants.{Bytes, Refused}
+use Rattle.tablefile.specs.declared.Written.the-variants.{Bytes, Refused}
 use Rattle.writer.specs.Writer.{writeTo}
 
 -- what the writer leaves in a lent part is read back from its front

@@ -10,7 +10,7 @@ use lib.Seq.{drop-drop}
 use Rattle.quantity.specs.declared.Refusal.the-variants.{CutShort}
 use Rattle.tablefile.specs.BigEndian.{numberAt}
 use Rattle.tablefile.specs.Layout.{Kind, markWidth, widths, recordOf, total, fieldNumbers, size}
-use Rattle.reader.specs.declared.Reading.the-variants.{Found, Refused}
+use Rattle.tablefile.specs.declared.Reading.the-variants.{Found, Refused}
 use Rattle.reader.specs.Reader.{readFields}
 
 -- the numbers in fields of these widths, the first of them so many bytes after a place

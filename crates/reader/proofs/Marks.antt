@@ -13,7 +13,7 @@ use lib.Seq.{drop-cons}
 use Rattle.quantity.specs.declared.Refusal.the-variants.{UnknownMark, CutShort}
 use Rattle.quantity.proofs.Booleans.{both}
 use Rattle.tablefile.specs.Layout.{Kind, GR, GD, ST, FR, kinds, mark}
-use Rattle.reader.specs.declared.Reading.the-variants.{NothingLeft, Refused}
+use Rattle.tablefile.specs.declared.Reading.the-variants.{NothingLeft, Refused}
 use Rattle.reader.specs.Reader.{isMark, markedAmong, readFields, readMarked, readLeft, readAt}
 
 -- the marks differ, so a mark is found as its own kind

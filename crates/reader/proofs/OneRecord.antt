@@ -18,8 +18,8 @@ use Rattle.tablefile.specs.BigEndian.{bigEndian, number, AreBytes}
 use Rattle.tablefile.specs.Layout.{Kind, GR, GD, ST, FR, kinds, markWidth, mark, widths, kindOf, numbersOf, recordOf, total, fieldBytes, fieldNumbers, Fit, no-field, and-field, Fits, bytesOf, size}
 use Rattle.tablefile.proofs.Numbers.{length-bigEndian, number-bigEndian, bigEndian-number, number-below, bytes-take, bytes-drop}
 use Rattle.tablefile.proofs.Fields.{mark-is, mark-width, fields-size, bytes-size}
-use Rattle.reader.specs.declared.Reading.{Reading}
-use Rattle.reader.specs.declared.Reading.the-variants.{Found, NothingLeft, Refused}
+use Rattle.tablefile.specs.declared.Reading.{Reading}
+use Rattle.tablefile.specs.declared.Reading.the-variants.{Found, NothingLeft, Refused}
 use Rattle.reader.specs.Reader.{isMark, markedAmong, readFields, readMarked, readLeft, readAt}
 use Rattle.reader.specs.RoundTrip.{Whole}
 

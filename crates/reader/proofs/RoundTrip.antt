@@ -4,7 +4,7 @@ use mathlib.Core.List.{List, [], _++_}
 use Prim.Native.Nat.{ℕ, _+_}
 use lib.ListN.{length}
 use Rattle.tablefile.specs.Layout.{bytesOf}
-use Rattle.reader.specs.declared.Reading.the-variants.{Found}
+use Rattle.tablefile.specs.declared.Reading.the-variants.{Found}
 use Rattle.reader.specs.Reader.{readAt}
 use Rattle.reader.specs.RoundTrip.{ReadsBack, WritesBack, FoundInTheWhole, SameBytes, OneAtATime, FileReadsBack, FileWritesBack}
 use Rattle.reader.proofs.OneRecord.{read-back, written-back, found-in-longer}

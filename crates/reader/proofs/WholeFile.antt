@@ -9,9 +9,9 @@ use lib.Seq.{take-add, drop-drop, take-all}
 use Rattle.tablefile.specs.declared.Record.{Record}
 use Rattle.tablefile.specs.BigEndian.{AreBytes}
 use Rattle.tablefile.specs.Layout.{bytesOf, size}
-use Rattle.reader.specs.declared.Reading.{Reading}
+use Rattle.tablefile.specs.declared.Reading.{Reading}
 use Rattle.reader.specs.Reader.{readAt}
-use Rattle.reader.specs.Answers.{nothingLeft}
+use Rattle.tablefile.specs.Answers.{nothingLeft}
 use Rattle.reader.specs.File.{fileOf, AllFit, no-record, and-record, Contents, onwards, answers, contentsFrom, contents}
 use Rattle.reader.specs.RoundTrip.{Copied}
 use Rattle.reader.proofs.Marks.{none-left}

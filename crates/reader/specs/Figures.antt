@@ -7,7 +7,7 @@ use Rattle.tablefile.specs.declared.Record.the-variants.{Group, Stream, Frame}
 use Rattle.tablefile.specs.BigEndian.{number}
 use Rattle.tablefile.specs.Layout.{kinds, total, fieldNumbers, size}
 use Rattle.reader.specs.Reader.{isMark, markedAmong, readFields, readMarked, readLeft, readAt}
-use Rattle.reader.specs.Answers.{nothingLeft}
+use Rattle.tablefile.specs.Answers.{nothingLeft}
 use Rattle.reader.specs.File.{onwards, answers, contentsFrom, contents}
 
 abbrev pub group-line : List ℕ

@@ -5,10 +5,10 @@ use mathlib.Core.List.{List, [], _∷_, _++_}
 use lib.ListN.{length}
 use Rattle.tablefile.specs.declared.Record.{Record}
 use Rattle.tablefile.specs.Layout.{Fits, bytesOf}
-use Rattle.reader.specs.declared.Reading.{Reading}
-use Rattle.reader.specs.declared.Reading.the-variants.{Found, NothingLeft, Refused}
+use Rattle.tablefile.specs.declared.Reading.{Reading}
+use Rattle.tablefile.specs.declared.Reading.the-variants.{Found, NothingLeft, Refused}
 use Rattle.reader.specs.Reader.{readAt}
-use Rattle.reader.specs.Answers.{nothingLeft, readingNumber}
+use Rattle.tablefile.specs.Answers.{nothingLeft, readingNumber}
 
 -- the bytes of records, one after the other; nothing stands between
 unfoldable pub fileOf : List Record → List ℕ

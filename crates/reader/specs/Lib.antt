@@ -1,5 +1,4 @@
 pub mod Reader
-pub mod Answers
 pub mod File
 pub mod RoundTrip
 pub mod Figures

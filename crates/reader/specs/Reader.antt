@@ -8,8 +8,8 @@ use lib.ListN.{length, getD, drop}
 use lib.Dec.{ltb, eqb}
 use Rattle.quantity.specs.declared.Refusal.the-variants.{UnknownMark, CutShort}
 use Rattle.tablefile.specs.Layout.{Kind, kinds, mark, widths, recordOf, total, fieldNumbers, size}
-use Rattle.reader.specs.declared.Reading.{Reading}
-use Rattle.reader.specs.declared.Reading.the-variants.{Found, NothingLeft, Refused}
+use Rattle.tablefile.specs.declared.Reading.{Reading}
+use Rattle.tablefile.specs.declared.Reading.the-variants.{Found, NothingLeft, Refused}
 
 -- these two bytes are this mark
 unfoldable pub isMark : List ℕ → ℕ → ℕ → Bool

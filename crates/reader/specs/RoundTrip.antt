@@ -8,9 +8,9 @@ use lib.ListN.{length, take, drop}
 use Rattle.tablefile.specs.declared.Record.{Record}
 use Rattle.tablefile.specs.BigEndian.{AreBytes}
 use Rattle.tablefile.specs.Layout.{Fits, bytesOf}
-use Rattle.reader.specs.declared.Reading.the-variants.{Found}
+use Rattle.tablefile.specs.declared.Reading.the-variants.{Found}
 use Rattle.reader.specs.Reader.{readAt}
-use Rattle.reader.specs.Answers.{nothingLeft}
+use Rattle.tablefile.specs.Answers.{nothingLeft}
 use Rattle.reader.specs.File.{AllFit, Contents, fileOf, onwards, contentsFrom, contents}
 
 -- a record's bytes are read back as that record, wherever they stand and whatever follows

@@ -1,4 +1,4 @@
-// The reader of one record of the table file, and document 01's numbers for its answers.
+// The reader of one record of the table file.
 // The records, their marks and their sizes are `tablefile`'s. Input lives with the programs.
 ghost use mathlib.Core.Path.{_≡_};
 ghost use Prim.Native.Nat.{_+_, _≤_};
@@ -6,30 +6,11 @@ ghost use lib.ListN.{length, drop, getD};
 ghost use Rattle.tablefile.specs.BigEndian.{numberAt};
 ghost use Rattle.tablefile.specs.Layout.{GR, GD, ST, FR, markWidth};
 ghost use Rattle.reader.specs.Reader.{isMark, readFields, readAt};
-ghost use Rattle.reader.specs.Answers.{readingNumber};
 use quantity::Rate;
 use quantity::Refusal;
 use quantity::Ticks;
+use tablefile::Reading;
 use tablefile::Record;
-
-// What the reader finds at a place.
-pub enum Reading {
-    // A record, and the place after it.
-    Found { record: Record, next: usize },
-    NothingLeft,
-    Refused(Refusal),
-}
-
-// Document 01's number for what the reader finds.
-pub fn reading_number(reading: Reading) -> u8
-    ensures { λ r. ⌜ r ≡ readingNumber reading ⌝ }
-{
-    match reading {
-        Reading::Found { .. } => 0,
-        Reading::NothingLeft => 5,
-        Reading::Refused(why) => quantity::refusal_number(why),
-    }
-}
 
 // The number in so many bits from a place on. Four bytes at once, and eight as two halves: the compiler makes one load
 // of each.

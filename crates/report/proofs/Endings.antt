@@ -13,9 +13,9 @@ use Rattle.quantity.specs.declared.Refusal.{Refusal}
 use Rattle.quantity.specs.declared.Refusal.the-variants.{Unsound, NoStream, LengthRange, AboveBurst, TooLate, BeforeLast, IdRange, SetUpBefore, NoGroup, RateRange, BurstRange, ResidenceRange, ClassRange, ClassFull, UnknownMark, CutShort, NoRoom, ListsUnfit, LineUnfit}
 use Rattle.quantity.proofs.Booleans.{both, and-false, cond-true, cond-false}
 use Rattle.text.specs.Places.{Placed}
-use Rattle.reader.specs.Answers.{readingNumber}
-use Rattle.reader.specs.declared.Reading.{Reading}
-use Rattle.reader.specs.declared.Reading.the-variants.{Found, NothingLeft, Refused}
+use Rattle.tablefile.specs.Answers.{readingNumber}
+use Rattle.tablefile.specs.declared.Reading.{Reading}
+use Rattle.tablefile.specs.declared.Reading.the-variants.{Found, NothingLeft, Refused}
 use Rattle.records.specs.Numbers.{answerNumber}
 use Rattle.records.specs.declared.Answer.{Answer}
 use Rattle.records.specs.declared.Answer.the-variants as answer

@@ -17,12 +17,12 @@ use Rattle.quantity.specs.declared.Refusal.the-variants.{UnknownMark, CutShort}
 use Rattle.tablefile.specs.BigEndian.{AreBytes}
 use Rattle.tablefile.specs.Layout.{Kind, kinds, mark, kindOf, widths, total, size}
 use Rattle.reader.specs.Reader.{markedAmong, readFields, readMarked, readLeft, readAt}
-use Rattle.reader.specs.Answers.{nothingLeft, readingNumber}
+use Rattle.tablefile.specs.Answers.{nothingLeft, readingNumber}
 use Rattle.reader.specs.File.{Contents, onwards, contentsFrom, contents}
 use Rattle.tablefile.specs.declared.Record.{Record}
 use Rattle.tablefile.specs.declared.Record.the-variants as made
-use Rattle.reader.specs.declared.Reading.{Reading}
-use Rattle.reader.specs.declared.Reading.the-variants.{Found, NothingLeft, Refused}
+use Rattle.tablefile.specs.declared.Reading.{Reading}
+use Rattle.tablefile.specs.declared.Reading.the-variants.{Found, NothingLeft, Refused}
 use Rattle.reader.proofs.Marks.{none-left}
 use Rattle.tablefile.proofs.Fields.{mark-width}
 use Rattle.reader.proofs.RoundTrip.{one-at-a-time, found-in-the-whole}

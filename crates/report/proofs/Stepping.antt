@@ -11,8 +11,8 @@ use Rattle.quantity.proofs.Booleans.{both, and-false, cond-true, cond-false}
 use Rattle.tablefile.specs.Layout.{mark, kindOf}
 use Rattle.tablefile.specs.declared.Record.{Record}
 use Rattle.tablefile.specs.declared.Record.the-variants as made
-use Rattle.reader.specs.declared.Reading.{Reading}
-use Rattle.reader.specs.declared.Reading.the-variants.{Found, NothingLeft, Refused}
+use Rattle.tablefile.specs.declared.Reading.{Reading}
+use Rattle.tablefile.specs.declared.Reading.the-variants.{Found, NothingLeft, Refused}
 use Rattle.records.specs.Numbers.{answerNumber}
 use Rattle.records.specs.declared.Answer.{Answer}
 use Rattle.report.specs.Parts.{lineRoom, mostLines, Part, mayGoOn, goingOn}

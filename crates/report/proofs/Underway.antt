@@ -9,8 +9,8 @@ use lib.Seq.{sets}
 use Rattle.tablefile.specs.Layout.{mark, kindOf, size}
 use Rattle.reader.specs.Reader.{readAt}
 use Rattle.tablefile.specs.declared.Record.{Record}
-use Rattle.reader.specs.declared.Reading.{Reading}
-use Rattle.reader.specs.declared.Reading.the-variants.{Found}
+use Rattle.tablefile.specs.declared.Reading.{Reading}
+use Rattle.tablefile.specs.declared.Reading.the-variants.{Found}
 use Rattle.tablefile.proofs.Fields.{mark-width}
 use Rattle.reader.proofs.OneRecord.{Front, whole, front}
 use Rattle.bridge.specs.History.{Reply, reply, afterCall}

@@ -8,10 +8,10 @@ use lib.ListN.{length}
 use lib.Seq.{sets}
 use Rattle.text.specs.Places.{Placed}
 use Rattle.reader.specs.Reader.{readAt}
-use Rattle.reader.specs.Answers.{readingNumber}
+use Rattle.tablefile.specs.Answers.{readingNumber}
 use Rattle.tablefile.specs.declared.Record.{Record}
-use Rattle.reader.specs.declared.Reading.{Reading}
-use Rattle.reader.specs.declared.Reading.the-variants.{Found, NothingLeft, Refused}
+use Rattle.tablefile.specs.declared.Reading.{Reading}
+use Rattle.tablefile.specs.declared.Reading.the-variants.{Found, NothingLeft, Refused}
 use Rattle.bridge.specs.History.{afterCall}
 use Rattle.bridge.specs.declared.Bridge.{Bridge}
 use Rattle.report.specs.Lines.{callOf, recordLine}

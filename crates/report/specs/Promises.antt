@@ -8,10 +8,10 @@ use mathlib.Core.List.{List, [], _∷_, _++_}
 use lib.ListN.{length, drop}
 use Rattle.tablefile.specs.BigEndian.{AreBytes}
 use Rattle.tablefile.specs.Layout.{FR, kindOf}
-use Rattle.reader.specs.Answers.{nothingLeft, readingNumber}
+use Rattle.tablefile.specs.Answers.{nothingLeft, readingNumber}
 use Rattle.tablefile.specs.Meaning.{defaultResidence, inFull}
 use Rattle.tablefile.specs.declared.Record.{Record}
-use Rattle.reader.specs.declared.Reading.{Reading}
+use Rattle.tablefile.specs.declared.Reading.{Reading}
 use Rattle.bridge.specs.History.{reply}
 use Rattle.bridge.specs.declared.Bridge.{Bridge}
 use Rattle.report.specs.Lines.{callOf, dash, column}

@@ -20,8 +20,8 @@ use Rattle.calls.specs.declared.SetUp.{SetUp}
 use Rattle.calls.specs.declared.PlacedGroup.{PlacedGroup}
 use Rattle.calls.specs.declared.PlacedStream.{PlacedStream}
 use Rattle.tablefile.specs.Layout.{mark, kindOf}
-use Rattle.reader.specs.declared.Reading.{Reading}
-use Rattle.reader.specs.declared.Reading.the-variants.{Found, NothingLeft, Refused}
+use Rattle.tablefile.specs.declared.Reading.{Reading}
+use Rattle.tablefile.specs.declared.Reading.the-variants.{Found, NothingLeft, Refused}
 use Rattle.report.specs.Lines.{dash}
 use Rattle.report.specs.Parts.{mayGoOn}
 use Rattle.report.specs.declared.Shown.{Shown}

@@ -1,10 +1,13 @@
-// The table file: its records, their marks and sizes, and what a record without a residence stands for.
+// The table file: its records, their marks and sizes, what a record without a residence stands for, and what reading and
+// writing can answer.
 // Reading a record is `reader`'s, and writing it `writer`'s. Every field value is taken as it stands; whether a group, a
 // stream or a frame is within its ranges is for set-up and judging to say, in the crates that know them.
 ghost use mathlib.Core.Path.{_≡_};
 ghost use Rattle.tablefile.specs.Layout.{mark, kindOf};
+ghost use Rattle.tablefile.specs.Answers.{readingNumber, writtenNumber};
 ghost use Rattle.tablefile.specs.Meaning.{defaultResidence, inFull};
 use quantity::Rate;
+use quantity::Refusal;
 use quantity::Ticks;
 
 pub enum Record {
@@ -32,6 +35,21 @@ pub enum Record {
         octets: u16,
         arrival: Ticks,
     },
+}
+
+// What the reader finds at a place.
+pub enum Reading {
+    // A record, and the place after it.
+    Found { record: Record, next: usize },
+    NothingLeft,
+    Refused(Refusal),
+}
+
+// What the writer did.
+pub enum Written {
+    // So many bytes stand at the front of the lent part.
+    Bytes(usize),
+    Refused(Refusal),
 }
 
 // The marks: two bytes before each record, which are also its letters.
@@ -80,5 +98,26 @@ pub fn letters(given: Record) -> [u8; 2]
         Record::GroupDefault { .. } => GROUP_DEFAULT_MARK,
         Record::Stream { .. } => STREAM_MARK,
         Record::Frame { .. } => FRAME_MARK,
+    }
+}
+
+// Document 01's number for what the reader finds.
+pub fn reading_number(reading: Reading) -> u8
+    ensures { λ r. ⌜ r ≡ readingNumber reading ⌝ }
+{
+    match reading {
+        Reading::Found { .. } => 0,
+        Reading::NothingLeft => 5,
+        Reading::Refused(why) => quantity::refusal_number(why),
+    }
+}
+
+// Document 01's number for what the writer did.
+pub fn written_number(written: Written) -> u8
+    ensures { λ r. ⌜ r ≡ writtenNumber written ⌝ }
+{
+    match written {
+        Written::Bytes(_) => 0,
+        Written::Refused(why) => quantity::refusal_number(why),
     }
 }

@@ -13,7 +13,7 @@ use Rattle.tablefile.specs.BigEndian.{byteValues, bigEndian}
 use Rattle.tablefile.specs.Layout.{markWidth, mark, widths, kindOf, numbersOf, fieldBytes, bytesOf, size}
 use Rattle.tablefile.proofs.Numbers.{length-bigEndian, bigEndian-parts}
 use Rattle.tablefile.proofs.Fields.{mark-is, mark-width, bytes-size}
-use Rattle.writer.specs.declared.Written.the-variants.{Bytes, Refused}
+use Rattle.tablefile.specs.declared.Written.the-variants.{Bytes, Refused}
 use Rattle.writer.specs.Writer.{writeOf, writeTo}
 
 pub sets-append : (a b l : List ℕ) (i : ℕ) → sets (sets l i a) (i + length a) b ≡ sets l i (a ++ b)

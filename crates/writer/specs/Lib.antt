@@ -1,2 +1,1 @@
 pub mod Writer
-pub mod Answers

@@ -8,8 +8,8 @@ use lib.Dec.{ltb}
 use Rattle.quantity.specs.declared.Refusal.the-variants.{NoRoom}
 use Rattle.tablefile.specs.declared.Record.{Record}
 use Rattle.tablefile.specs.Layout.{bytesOf}
-use Rattle.writer.specs.declared.Written.{Written}
-use Rattle.writer.specs.declared.Written.the-variants.{Bytes, Refused}
+use Rattle.tablefile.specs.declared.Written.{Written}
+use Rattle.tablefile.specs.declared.Written.the-variants.{Bytes, Refused}
 
 -- an answer, and the lent part as it is left
 pub record Writing : Type 0 where

@@ -1,4 +1,4 @@
-// The writer of one record of the table file, and document 01's numbers for its answers.
+// The writer of one record of the table file.
 // The records, their marks and their sizes are `tablefile`'s. Output lives with the programs.
 ghost use mathlib.Core.Path.{_≡_};
 ghost use mathlib.Core.List.{[], _∷_};
@@ -8,26 +8,9 @@ ghost use lib.Seq.{sets};
 ghost use Rattle.tablefile.specs.BigEndian.{bigEndian};
 ghost use Rattle.tablefile.specs.Layout.{markWidth, kindOf, bytesOf, size};
 ghost use Rattle.writer.specs.Writer.{writeTo};
-ghost use Rattle.writer.specs.Answers.{writtenNumber};
 use quantity::Refusal;
 use tablefile::Record;
-
-// What the writer did.
-pub enum Written {
-    // So many bytes stand at the front of the lent part.
-    Bytes(usize),
-    Refused(Refusal),
-}
-
-// Document 01's number for what the writer did.
-pub fn written_number(written: Written) -> u8
-    ensures { λ r. ⌜ r ≡ writtenNumber written ⌝ }
-{
-    match written {
-        Written::Bytes(_) => 0,
-        Written::Refused(why) => quantity::refusal_number(why),
-    }
-}
+use tablefile::Written;
 
 // A number stored in so many bits from a place on.
 fn put8(part: &mut [u8], at: usize, n: u8)

@@ -16,8 +16,8 @@ use Rattle.tablefile.specs.Layout.{Kind, kinds, widths, total, size, recordOf, 
 use Rattle.reader.specs.Reader.{markedAmong, readFields, readMarked, readLeft, readAt}
 use Rattle.tablefile.specs.declared.Record.{Record}
 use Rattle.tablefile.specs.declared.Record.the-variants as rec
-use Rattle.reader.specs.declared.Reading.{Reading}
-use Rattle.reader.specs.declared.Reading.the-variants.{Found, NothingLeft, Refused}
+use Rattle.tablefile.specs.declared.Reading.{Reading}
+use Rattle.tablefile.specs.declared.Reading.the-variants.{Found, NothingLeft, Refused}
 use Rattle.reader.proofs.OneRecord.{Front, empty, cut, strange, whole, front, found-in-longer}
 use Rattle.bridge.specs.Calls.{groupCalled, streamCalled}
 use Rattle.bridge.specs.declared.Bridge.{Bridge}

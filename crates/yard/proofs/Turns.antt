@@ -15,8 +15,8 @@ use Rattle.tablefile.specs.Layout.{mark, widths, recordOf, fieldNumbers, size}
 use Rattle.reader.specs.Reader.{readAt}
 use Rattle.tablefile.specs.declared.Record.{Record}
 use Rattle.tablefile.specs.declared.Record.the-variants as rec
-use Rattle.reader.specs.declared.Reading.{Reading}
-use Rattle.reader.specs.declared.Reading.the-variants as reading
+use Rattle.tablefile.specs.declared.Reading.{Reading}
+use Rattle.tablefile.specs.declared.Reading.the-variants as reading
 use Rattle.tablefile.proofs.Fields.{mark-width}
 use Rattle.reader.proofs.Marks.{none-left}
 use Rattle.reader.proofs.OneRecord.{Front, empty, cut, strange, whole, front}

@@ -7,7 +7,7 @@ use quantity::Bits;
 use quantity::Rate;
 use quantity::Refusal;
 use quantity::Ticks;
-use reader::Reading;
+use tablefile::Reading;
 use tablefile::Record;
 ghost use mathlib.Core.Path.{_≡_};
 ghost use mathlib.Core.Bool.{Bool};

@@ -3,7 +3,7 @@ use borrow.Author.Needs.{needs}
 use mathlib.Core.Path.{_≡_, refl, sym, ap, _∙_}
 use native.Mathlib.Omega.{arith}
 use Rattle.report.specs.Steps.{nextStep}
-use Rattle.reader.specs.declared.Reading.{Reading}
+use Rattle.tablefile.specs.declared.Reading.{Reading}
 use Rattle.report.specs.declared.Step.the-variants.{Ends}
 use Rattle.report.proofs.Stepping.{no-room, no-number, goes}
 use Rattle.report.proofs.next_step.Statement.{statement}

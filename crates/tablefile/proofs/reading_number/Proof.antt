@@ -1,10 +1,10 @@
--- `reader::reading_number` meets its contract: each answer has its number, and a refusal that of its name.
+-- `tablefile::reading_number` meets its contract: each answer has its number, and a refusal that of its name.
 -- Assumes nothing.
 use borrow.Author.Needs.{needs}
 use mathlib.Core.Path.{sym, ap, _∙_}
-use Rattle.reader.specs.Answers.{readingNumber}
-use Rattle.reader.proofs.reading_number.Statement.{statement}
-use Rattle.reader.proofs.reading_number.Tie as tie
+use Rattle.tablefile.specs.Answers.{readingNumber}
+use Rattle.tablefile.proofs.reading_number.Statement.{statement}
+use Rattle.tablefile.proofs.reading_number.Tie as tie
 
 enum-told : tie.Need-enum-told
 enum-told c = search needs

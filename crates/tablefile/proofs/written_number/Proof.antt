@@ -1,10 +1,10 @@
--- `writer::written_number` meets its contract: each answer has its number, and a refusal that of its name.
+-- `tablefile::written_number` meets its contract: each answer has its number, and a refusal that of its name.
 -- Assumes nothing.
 use borrow.Author.Needs.{needs}
 use mathlib.Core.Path.{sym, ap, _∙_}
-use Rattle.writer.specs.Answers.{writtenNumber}
-use Rattle.writer.proofs.written_number.Statement.{statement}
-use Rattle.writer.proofs.written_number.Tie as tie
+use Rattle.tablefile.specs.Answers.{writtenNumber}
+use Rattle.tablefile.proofs.written_number.Statement.{statement}
+use Rattle.tablefile.proofs.written_number.Tie as tie
 
 enum-told : tie.Need-enum-told
 enum-told c = search needs
