@@ -26,10 +26,9 @@ use Rattle.bridge.specs.History.{Reply}
 use Rattle.report.specs.Lines.{dash, lineOf}
 use Rattle.report.specs.Listing.{leastRefusal, endLine, ending}
 use Rattle.report.specs.Parts.{lineRoom, endRoom, mostLines, mayEnd, endPut}
-use Rattle.report.specs.Steps.{Put, valuesOf, replyOf, lettersOf}
+use Rattle.report.specs.Steps.{Put, valuesOf, replyOf}
 use Rattle.report.specs.declared.Answered.{Answered}
 use Rattle.report.specs.declared.Shown.the-variants.{Dash}
-use Rattle.report.specs.declared.Letters.{Letters}
 
 -- ---- the text
 
@@ -79,13 +78,12 @@ refused-ending n why =
     (lineOf (n + 1) (dash ∷ dash ∷ []) (record { number = numberOf why; values = [] }) ++ endLine (n + 1))
     (le-ltb (numberOf why) leastRefusal (refusal-number why .0))
 
--- with the letters and the number that the code found
-pub refused-text : (n k : ℕ) (why : Refusal) (x : Reading) (letters : Letters) → x ≡ Refused why → letters ≡ lettersOf x → k ≡ numberOf why
-    → lineOf (n + 1) (letters .0 ∷ letters .1 ∷ []) (replyOf (record { number = k; time = Dash })) ++ endLine (n + 1) ≡ ending n (numberOf why)
-unfolding replyOf valuesOf lettersOf
-refused-text n k why x letters e f g =
-    ap (λ (t : Letters). lineOf (n + 1) (t .0 ∷ t .1 ∷ []) (record { number = k; values = [] }) ++ endLine (n + 1)) (f ∙ ap lettersOf e)
-    ∙ ap (λ (i : ℕ). lineOf (n + 1) (dash ∷ dash ∷ []) (record { number = i; values = [] }) ++ endLine (n + 1)) g
+-- with the number that the code found
+pub refused-text : (n k : ℕ) (why : Refusal) → k ≡ numberOf why
+    → lineOf (n + 1) (dash ∷ dash ∷ []) (replyOf (record { number = k; time = Dash })) ++ endLine (n + 1) ≡ ending n (numberOf why)
+unfolding replyOf valuesOf
+refused-text n k why g =
+    ap (λ (i : ℕ). lineOf (n + 1) (dash ∷ dash ∷ []) (record { number = i; values = [] }) ++ endLine (n + 1)) g
     ∙ sym (refused-ending n why)
 
 pub ending-of : (n : ℕ) {x y : Reading} → x ≡ y → ending n (readingNumber y) ≡ ending n (readingNumber x)

@@ -16,7 +16,7 @@ use Rattle.tablefile.specs.declared.Reading.the-variants.{Found, NothingLeft, R
 use Rattle.records.specs.Numbers.{answerNumber}
 use Rattle.records.specs.declared.Answer.{Answer}
 use Rattle.report.specs.Parts.{lineRoom, mostLines, Part, mayGoOn, goingOn}
-use Rattle.report.specs.Steps.{shownOf, frameAnswer, lettersOf, nextStep}
+use Rattle.report.specs.Steps.{shownOf, frameAnswer, nextStep}
 use Rattle.report.specs.declared.Shown.{Shown}
 use Rattle.report.specs.declared.Answered.{Answered}
 use Rattle.report.specs.declared.Step.{Step}

@@ -4,7 +4,7 @@ use mathlib.Core.List.{List, [], _∷_, _++_, append-nil, append-assoc}
 use Prim.Native.Nat.{ℕ, zero, suc, _+_, _-_, _≤_, _<_}
 use native.Mathlib.Nat.{zero-add, sub-zero}
 use native.Mathlib.Omega.{arith}
-use lib.ListN.{length, drop, length-append, length-drop}
+use lib.ListN.{length, getD, drop, length-append, length-drop}
 use lib.Seq.{sets}
 use Rattle.tablefile.specs.Layout.{mark, kindOf, size}
 use Rattle.reader.specs.Reader.{readAt}
@@ -17,9 +17,8 @@ use Rattle.bridge.specs.History.{Reply, reply, afterCall}
 use Rattle.bridge.specs.declared.Bridge.{Bridge}
 use Rattle.report.specs.Lines.{callOf, lineOf, recordLine}
 use Rattle.report.specs.Parts.{lineRoom, mostLines, Part, onto, mayGoOn, goingOn, stopsAt, partFor, partOf, ListedPart, listedOf, partPut, partListed}
-use Rattle.report.specs.Steps.{Put, replyOf, lettersOf, nextStep}
+use Rattle.report.specs.Steps.{Put, replyOf, nextStep}
 use Rattle.report.specs.declared.Answered.{Answered}
-use Rattle.report.specs.declared.Letters.{Letters}
 use Rattle.report.specs.declared.Listed.{Listed}
 use Rattle.report.specs.declared.Step.the-variants.{Ends}
 use Rattle.report.proofs.Texts.{put-then, put-text, put-length}
@@ -54,12 +53,12 @@ unfolding onto
 onto-onto a b x = rw (append-assoc a b (x .text))
 
 -- the line that was put is the record's
-own-line : (b : Bridge) (n : ℕ) (r : Record) (next : ℕ) (x : Reading) (letters : Letters) (a : Answered)
-    → x ≡ Found r next → letters ≡ lettersOf x → replyOf a ≡ reply b (callOf r)
-    → lineOf (n + 1) (letters .0 ∷ letters .1 ∷ []) (replyOf a) ≡ recordLine b n r
-unfolding recordLine lettersOf
-own-line b n r next x letters a e g h =
-    ap (λ (t : Letters). lineOf (n + 1) (t .0 ∷ t .1 ∷ []) (replyOf a)) (g ∙ ap lettersOf e)
+own-line : (b : Bridge) (n : ℕ) (r : Record) (letters : List ℕ) (a : Answered)
+    → letters ≡ mark (kindOf r) → replyOf a ≡ reply b (callOf r)
+    → lineOf (n + 1) (getD letters 0 0 ∷ getD letters 1 0 ∷ []) (replyOf a) ≡ recordLine b n r
+unfolding recordLine
+own-line b n r letters a g h =
+    ap (λ (l : List ℕ). lineOf (n + 1) (getD l 0 0 ∷ getD l 1 0 ∷ []) (replyOf a)) g
     ∙ ap (λ (m : List ℕ). lineOf (n + 1) m (replyOf a)) (mark-letters r)
     ∙ ap (lineOf (n + 1) (mark (kindOf r))) h
 
@@ -135,12 +134,12 @@ module _ (bytes out₀ : List ℕ) (b₀ : Bridge) (n₀ : ℕ) (b : Bridge) (n 
               ∙ ap (λ (k : ℕ). onto line (partFor more bytes k b' (n + 1) next)) left,
         )
 
-    pub turns : (b' : Bridge) → b' ≡ afterCall b (callOf r) → (letters : Letters) → letters ≡ lettersOf x → (a : Answered) → replyOf a ≡ reply b (callOf r)
-        → {w' : ℕ} {out' : List ℕ} → Put out w (lineOf (n + 1) (letters .0 ∷ letters .1 ∷ []) (replyOf a)) w' out' × (w' ≤ w + lineRoom)
+    pub turns : (b' : Bridge) → b' ≡ afterCall b (callOf r) → (letters : List ℕ) → letters ≡ mark (kindOf r) → (a : Answered) → replyOf a ≡ reply b (callOf r)
+        → {w' : ℕ} {out' : List ℕ} → Put out w (lineOf (n + 1) (getD letters 0 0 ∷ getD letters 1 0 ∷ []) (replyOf a)) w' out' × (w' ≤ w + lineRoom)
         → Underway bytes out₀ b₀ n₀ b' (n + 1) next w' out'
     turns b' e letters f a h {w'} {out'} q =
-        let line = lineOf (n + 1) (letters .0 ∷ letters .1 ∷ []) (replyOf a) in
-        let t = turned (u .more) (u .enough) b' e line (own-line b n r next x letters a (g .found) f h) w' (q .0 .ends) in
+        let line = lineOf (n + 1) (getD letters 0 0 ∷ getD letters 1 0 ∷ []) (replyOf a) in
+        let t = turned (u .more) (u .enough) b' e line (own-line b n r letters a f h) w' (q .0 .ends) in
         let p' = put-then (u .text) line (u .put) (q .0) in
         record {
           more = t .0;

@@ -4,7 +4,7 @@ use Prim.Native.Nat.{ℕ, _+_}
 use mathlib.Core.Path.{_≡_}
 use mathlib.Core.Bool.{cond}
 use mathlib.Core.List.{List, [], _∷_}
-use lib.ListN.{length, getD}
+use lib.ListN.{length}
 use lib.Seq.{sets}
 use Rattle.quantity.specs.Numbers.{numberOf}
 use Rattle.records.specs.Numbers.{answerNumber}
@@ -19,15 +19,12 @@ use Rattle.calls.specs.Calls.{groupPlaced, streamPlaced, judgedAt}
 use Rattle.calls.specs.declared.SetUp.{SetUp}
 use Rattle.calls.specs.declared.PlacedGroup.{PlacedGroup}
 use Rattle.calls.specs.declared.PlacedStream.{PlacedStream}
-use Rattle.tablefile.specs.Layout.{mark, kindOf}
 use Rattle.tablefile.specs.declared.Reading.{Reading}
 use Rattle.tablefile.specs.declared.Reading.the-variants.{Found, NothingLeft, Refused}
-use Rattle.report.specs.Lines.{dash}
 use Rattle.report.specs.Parts.{mayGoOn}
 use Rattle.report.specs.declared.Shown.{Shown}
 use Rattle.report.specs.declared.Shown.the-variants.{Time, Dash}
 use Rattle.report.specs.declared.Answered.{Answered}
-use Rattle.report.specs.declared.Letters.{Letters}
 use Rattle.report.specs.declared.Step.{Step}
 use Rattle.report.specs.declared.Step.the-variants.{Ends, Goes}
 use Rattle.report.specs.declared.Carried.{Carried}
@@ -66,13 +63,6 @@ shownOf (answer.Refused why) = Dash
 
 unfoldable pub frameAnswer : Answer → Answered
 frameAnswer a = record { number = answerNumber a; time = shownOf a }
-
--- ---- letters
-
-unfoldable pub lettersOf : Reading → Letters
-lettersOf (Found r next) = record { 0 = getD (mark (kindOf r)) 0 0; 1 = getD (mark (kindOf r)) 1 0 }
-lettersOf NothingLeft = record { 0 = dash; 1 = dash }
-lettersOf (Refused why) = record { 0 = dash; 1 = dash }
 
 -- ---- steps
 

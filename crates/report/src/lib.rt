@@ -15,7 +15,7 @@ use tablefile::Record;
 ghost use mathlib.Core.Path.{_≡_};
 ghost use mathlib.Core.List.{[], _∷_, _++_};
 ghost use Prim.Native.Nat.{_+_, _≤_, _<_};
-ghost use lib.ListN.{length};
+ghost use lib.ListN.{length, getD};
 ghost use Rattle.quantity.specs.Numbers.{numberOf};
 ghost use Rattle.calls.specs.Calls.{groupPlaced, streamPlaced, judgedAt};
 ghost use Rattle.text.specs.Decimal.{decimal};
@@ -23,7 +23,7 @@ ghost use Rattle.text.specs.Places.{placed};
 ghost use Rattle.report.specs.Lines.{callOf, space, newline, column, lineOf};
 ghost use Rattle.report.specs.Listing.{endLine, ending};
 ghost use Rattle.report.specs.Parts.{lineRoom, endRoom, mostLines, partListed, endPut};
-ghost use Rattle.report.specs.Steps.{mostDigits, headRoom, tailRoom, Put, valuesOf, replyOf, setUpAnswer, frameAnswer, lettersOf, nextStep, streamOf, groupOf, groupCarried, streamCarried, frameCarried, carriedOut};
+ghost use Rattle.report.specs.Steps.{mostDigits, headRoom, tailRoom, Put, valuesOf, replyOf, setUpAnswer, frameAnswer, nextStep, streamOf, groupOf, groupCarried, streamCarried, frameCarried, carriedOut};
 
 // No line is longer: 20 digits, a space, two letters, a space, three digits, a space, 20 digits, and the line's end.
 pub const LINE_ROOM: usize = 49;
@@ -34,7 +34,7 @@ pub const END_ROOM: usize = 25;
 // The lines are counted up to this one.
 pub const MOST_LINES: u64 = 18_446_744_073_709_551_615;
 
-// The last column of a line. Public, with the four types that follow, for definitions of other crates.
+// The last column of a line. Public, with the three types that follow, for definitions of other crates.
 pub enum Shown {
     Time(Ticks),
     Dash,
@@ -45,9 +45,6 @@ pub struct Answered {
     pub number: u8,
     pub time: Shown,
 }
-
-// The second column of a line.
-pub struct Letters(pub u8, pub u8);
 
 // What a record's call answers, and the stream and the group that it looked at, as it leaves them.
 pub struct Carried {
@@ -103,20 +100,6 @@ fn frame_answer(answer: Answer) -> Answered
             number,
             time: Shown::Dash,
         },
-    }
-}
-
-// The letters of what the reader gives: a record's mark, and two dashes for what is none.
-fn letters_of(reading: Reading) -> Letters
-    ensures { λ r. ⌜ r ≡ lettersOf reading ⌝ }
-{
-    match reading {
-        Reading::Found { record, next: _ } => {
-            let mark = tablefile::letters(record);
-            Letters(mark[0], mark[1])
-        }
-        Reading::NothingLeft => Letters(b'-', b'-'),
-        Reading::Refused(_) => Letters(b'-', b'-'),
     }
 }
 
@@ -246,14 +229,14 @@ fn carry_out(given: Record, stream: Stream, group: Group) -> Carried
 // ---- the text of a line, where there is room for it
 
 // The number of a line and its two letters, with the spaces after them.
-fn put_head(out: &mut [u8], at: usize, number: u64, letters: Letters) -> usize
+fn put_head(out: &mut [u8], at: usize, number: u64, letters: [u8; 2]) -> usize
     requires { ⌜ at + headRoom ≤ length (now out) ⌝ }
-    ensures { λ r. ⌜ Put (now (out .entry)) at (decimal number ++ (space ∷ letters .0 ∷ letters .1 ∷ space ∷ [])) r (now (out .exit)) ⌝ }
+    ensures { λ r. ⌜ Put (now (out .entry)) at (decimal number ++ (space ∷ getD letters 0 0 ∷ getD letters 1 0 ∷ space ∷ [])) r (now (out .exit)) ⌝ }
 {
     let after = text::put_decimal(out, at, number);
     out[after] = b' ';
-    out[after + 1] = letters.0;
-    out[after + 2] = letters.1;
+    out[after + 1] = letters[0];
+    out[after + 2] = letters[1];
     out[after + 3] = b' ';
     after + 4
 }
@@ -294,9 +277,9 @@ fn put_tail(out: &mut [u8], at: usize, number: u8, time: Shown) -> usize
     last + 1
 }
 
-fn put_line(out: &mut [u8], at: usize, number: u64, letters: Letters, answer: Answered) -> usize
+fn put_line(out: &mut [u8], at: usize, number: u64, letters: [u8; 2], answer: Answered) -> usize
     requires { ⌜ at + lineRoom ≤ length (now out) ⌝ }
-    ensures { λ r. ⌜ Put (now (out .entry)) at (lineOf number (letters .0 ∷ letters .1 ∷ []) (replyOf answer)) r (now (out .exit)) × (r ≤ at + lineRoom) ⌝ }
+    ensures { λ r. ⌜ Put (now (out .entry)) at (lineOf number (getD letters 0 0 ∷ getD letters 1 0 ∷ []) (replyOf answer)) r (now (out .exit)) × (r ≤ at + lineRoom) ⌝ }
 {
     let returned = answer.number;
     let time = answer.time;
@@ -339,7 +322,7 @@ pub fn list_part(bytes: &[u8], bridge: Bridge, count: u64, out: &mut [u8]) -> Li
                 groups[of] = group_after;
                 streams[at] = stream_after;
                 lines += 1;
-                written = put_line(out, written, lines, letters_of(reading), answer);
+                written = put_line(out, written, lines, tablefile::letters(record), answer);
                 place = next;
                 continue;
             }
@@ -364,15 +347,15 @@ fn put_count(out: &mut [u8], at: usize, count: u64) -> usize
 }
 
 // The line of what ended the reading, and the last line.
-fn put_refused(out: &mut [u8], at: usize, count: u64, reading: Reading, why: Refusal) -> usize
-    requires { ⌜ (at + (lineRoom + endRoom) ≤ length (now out)) × ((count < mostLines) × (reading ≡ Reading.Refused why)) ⌝ }
+fn put_refused(out: &mut [u8], at: usize, count: u64, why: Refusal) -> usize
+    requires { ⌜ (at + (lineRoom + endRoom) ≤ length (now out)) × (count < mostLines) ⌝ }
     ensures { λ r. ⌜ Put (now (out .entry)) at (ending count (numberOf why)) r (now (out .exit)) ⌝ }
 {
     let answer = Answered {
         number: quantity::refusal_number(why),
         time: Shown::Dash,
     };
-    let last = put_line(out, at, count + 1, letters_of(reading), answer);
+    let last = put_line(out, at, count + 1, [b'-', b'-'], answer);
     put_count(out, last, count + 1)
 }
 
@@ -394,6 +377,6 @@ pub fn put_end(out: &mut [u8], at: usize, count: u64, reading: Reading) -> usize
     match reading {
         Reading::Found { .. } => put_count(out, at, count),
         Reading::NothingLeft => put_count(out, at, count),
-        Reading::Refused(why) => put_refused(out, at, count, reading, why),
+        Reading::Refused(why) => put_refused(out, at, count, why),
     }
 }

@@ -103,8 +103,8 @@ array-set-from-streams c = stream-in (c .before .before .before .before .before 
 add-lines : tie.Need-add-lines Inv-loop μ-loop
 add-lines c = omega (arith, goes (c .before .before .before .before .before .before .before .before .before .before .before) .counts)
 
-letters-of-requires : tie.Need-letters-of-requires Inv-loop μ-loop
-letters-of-requires c κs = tt
+letters-requires : tie.Need-letters-requires Inv-loop μ-loop
+letters-requires c κs = tt
 
 put-line-requires : tie.Need-put-line-requires Inv-loop μ-loop
 put-line-requires c κs = omega (arith, goes (c .before .before .before .before .before .before .before .before .before .before .before .before .before) .roomy, c .before .before .before .before .before .before .before .before .before .before .before .before .before .before .before .before .before .loop .inv .within, c .before .before .before .before .before .before .before .before .before .before .before .before .before .before .before .before .before .loop .inv .long)
@@ -125,7 +125,7 @@ loop-again c =
     let n = s .before .before in
     turns _ _ _ _ _ _ _ _ _ (n .before .before .loop .inv) _ (n .before .read .ensures) _ _ (goes s)
     _ (call-after _ _ _ _ _ _ (i .stream-place .ensures) (f .stream-of .ensures) (q .group-place .ensures) (g .group-of .ensures) _ (x .carry-out .ensures))
-    _ (e .letters-of .ensures)
+    _ (e .letters .ensures)
     _ (call-replies _ _ _ _ _ _ (i .stream-place .ensures) (f .stream-of .ensures) (q .group-place .ensures) (g .group-of .ensures) _ (x .carry-out .ensures))
     (p .put-line .ensures)
 
@@ -157,7 +157,7 @@ list-part-spec =
     mul-streams
     array-set-from-streams
     add-lines
-    letters-of-requires
+    letters-requires
     put-line-requires
     loop-less
     loop-again)

@@ -22,11 +22,17 @@ room c = let a = c .before .before .before .args in decimal-room (a .out .now) (
 slice-write-out : tie.Need-slice-write-out
 slice-write-out c = omega (arith, room (c .before .before))
 
+array-read-out : tie.Need-array-read-out
+array-read-out c = search needs
+
 add-out : tie.Need-add-out
 add-out c = omega (arith, room (c .before .before))
 
 slice-write-out-2 : tie.Need-slice-write-out-2
 slice-write-out-2 c = simp length-set (omega (arith, room (c .before .before)))
+
+array-read-out-2 : tie.Need-array-read-out-2
+array-read-out-2 c = search needs
 
 add-out-2 : tie.Need-add-out-2
 add-out-2 c = omega (arith, room (c .before .before))
@@ -60,8 +66,10 @@ put-head-spec =
     (tie.spec
     put-decimal-requires
     slice-write-out
+    array-read-out
     add-out
     slice-write-out-2
+    array-read-out-2
     add-out-2
     slice-write-out-3
     add-out-3

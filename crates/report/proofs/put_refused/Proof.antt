@@ -16,9 +16,6 @@ refusal-number-requires c κs = search needs
 add-put-line : tie.Need-add-put-line
 add-put-line c = search needs
 
-letters-of-requires : tie.Need-letters-of-requires
-letters-of-requires c κs = search needs
-
 put-line-requires : tie.Need-put-line-requires
 put-line-requires c κs = search needs
 
@@ -35,10 +32,9 @@ returns : tie.Need-returns
 returns c =
     let t = c .before .before in
     let p = t .before .before .before .before in
-    let e = p .before in
-    let k = e .before .before in
+    let k = p .before .before in
     let s = k .before .before in
-    put-text (refused-text (s .args .count) (k .refusal-number .result) (s .args .why) (s .args .reading) (e .letters-of .result) (s .pre .1 .1) (e .letters-of .ensures) (k .refusal-number .ensures))
+    put-text (refused-text (s .args .count) (k .refusal-number .result) (s .args .why) (k .refusal-number .ensures))
     (put-then _ _ (p .put-line .ensures .0) (t .put-count .ensures))
 
 pub put-refused-spec : {M : Type 1} → statement M
@@ -47,7 +43,6 @@ put-refused-spec =
     (tie.spec
     refusal-number-requires
     add-put-line
-    letters-of-requires
     put-line-requires
     add-put-count
     put-count-requires
