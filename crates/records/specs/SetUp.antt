@@ -1,5 +1,5 @@
 -- Document 01, 'One frame through a scheduler' and 'Numbers returned': a group and a stream start as they are first; order 21, 20 of a group, and 17, 9, 18, 19 of a stream.
--- c is a class, M a residence limit, r a rate, b a burst. That an id is out of range or already set up (15, 16) is for the tables to say.
+-- c is a class, M a residence limit, r a rate, b a burst. That an id is out of range or already set up (15, 16) is for the calls by id to say.
 use Prim.Native.Nat.{ℕ}
 use mathlib.Core.Bool.{true, not, cond, _&&_}
 use Rattle.quantity.specs.Ranges.{inRange}
