@@ -19,7 +19,8 @@ use Rattle.records.specs.declared.Group.{Group}
 use Rattle.records.specs.declared.Stream.{Stream}
 use Rattle.shaper.specs.declared.Judged.{Judged}
 use Rattle.records.specs.declared.Answer.{Answer}
-use Rattle.shaper.proofs.Judging.{Passes, Verdict, verdict, not-set-up}
+use Rattle.shaper.proofs.Judging.{Verdict, verdict, not-set-up}
+use Rattle.admission.proofs.Tests.{Passes}
 use Rattle.records.proofs.Fresh.{class-out, residence-out, group-done, group-out, group-unused, group-unsound, rate-out, burst-out, stream-done}
 use Rattle.bridge.specs.Tables.{noGroup, noStream, groupAt, streamAt, withGroup, withStream}
 use Rattle.calls.specs.Calls.{groupTaken, groupPlaced, streamTaken, streamPlaced, judgedAt}

@@ -10,6 +10,7 @@ use Rattle.quantity.specs.declared.Refusal.the-variants.{Unsound}
 use Rattle.quantity.proofs.Ranges.{too-high}
 use Rattle.quantity.proofs.Booleans.{and-false}
 use Rattle.records.specs.Numbers.{isSetUp}
+use Rattle.admission.specs.Tests.{tested}
 use Rattle.shaper.specs.Numbers.{judged, refused}
 use Rattle.records.specs.SetUp.{groupSetUp, streamSetUp}
 use Rattle.records.specs.Sound.{sound, soundGroup}
@@ -90,7 +91,7 @@ module _ (s : Stream) (g : Group) (A : ℕ) where
       go false u = unset m s g o A u ∙ sym (unset n s g o A u)
 
   octets-out : (m n : ℕ) → mostOfHalf ≤ m → mostOfHalf ≤ n → judged s g m A ≡ judged s g n A
-  unfolding judged
+  unfolding judged tested
   octets-out m n a b = simp (too-high Octets m (omega (arith, a)), too-high Octets n (omega (arith, b)))
 
   frame-octets : (i m n : ℕ) → mostOfHalf ≤ m → mostOfHalf ≤ n → judgedIn i s g m A ≡ judgedIn i s g n A

@@ -24,7 +24,8 @@ use Rattle.records.specs.declared.Regulator.the-variants.{Unset, Bucket}
 use Rattle.shaper.specs.declared.Judged.{Judged}
 use Rattle.records.specs.declared.Answer.{Answer}
 use Rattle.records.specs.declared.Answer.the-variants.{Released, Discarded}
-use Rattle.shaper.proofs.Judging.{Passes, too-late, in-time}
+use Rattle.shaper.proofs.Judging.{too-late, in-time}
+use Rattle.admission.proofs.Tests.{Passes}
 use Rattle.records.proofs.Soundness.{SoundOk, sound-ok}
 use Rattle.bridge.specs.Tables.{groupAt, streamAt, withGroup, withStream}
 use Rattle.bridge.specs.Calls.{groupCalled, streamCalled, frameStored, frameCalled}

@@ -14,7 +14,8 @@ use Rattle.shaper.specs.Frame.{burstOf, S, F, E-after, earliest, afterRelease, 
 use Rattle.records.specs.Sound.{soundGroup, soundRegulator, sound}
 use Rattle.records.specs.SetUp.{freshGroup, freshStream, groupSetUp, streamSetUp}
 use Rattle.records.specs.Numbers.{isSetUp, answerNumber, answerValues}
-use Rattle.shaper.specs.Numbers.{aboveBurst, judged}
+use Rattle.shaper.specs.Numbers.{afterTests, judged}
+use Rattle.admission.specs.Tests.{aboveBurst, tested}
 use Rattle.bridge.specs.Tables.{freshBridge, groupAt, streamAt, withGroup, withStream}
 use Rattle.calls.specs.Calls.{groupTaken, groupPlaced, streamTaken, streamPlaced, judgedAt}
 use Rattle.bridge.specs.Calls.{groupStored, groupCalled, streamStored, streamCalled, frameStored, frameCalled}
@@ -42,7 +43,7 @@ pub record Given : Type 0 where
   pub before : groupAt freshBridge 0 .used ≡ false
 
 pub given : Given
-unfolding outcomes outcome outcomeOf afterCall freshBridge groupAt streamAt withGroup withStream groupCalled groupStored groupPlaced groupTaken streamCalled streamStored streamPlaced streamTaken frameCalled frameStored judgedAt groupSetUp streamSetUp freshGroup freshStream judged aboveBurst sound soundGroup soundRegulator inRange processFrame settled discarded released eligibilityTime earliest afterRelease E-first S F E-after exactly momentOf roundedUp chargedBits after burstOf reply setUpNumber answerNumber
+unfolding outcomes outcome outcomeOf afterCall freshBridge groupAt streamAt withGroup withStream groupCalled groupStored groupPlaced groupTaken streamCalled streamStored streamPlaced streamTaken frameCalled frameStored judgedAt groupSetUp streamSetUp freshGroup freshStream judged afterTests tested aboveBurst sound soundGroup soundRegulator inRange processFrame settled discarded released eligibilityTime earliest afterRelease E-first S F E-after exactly momentOf roundedUp chargedBits after burstOf reply setUpNumber answerNumber
 given = record {
   two = refl;
   three = refl;

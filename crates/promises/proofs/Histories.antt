@@ -13,13 +13,13 @@ use Rattle.quantity.proofs.Ranges.{at-least}
 use Rattle.shaper.specs.Frame.{burstOf, afterRelease, eligibilityTime}
 use Rattle.records.specs.SetUp.{freshGroup, freshStream}
 use Rattle.records.specs.Numbers.{isSetUp}
-use Rattle.shaper.specs.Numbers.{aboveBurst}
+use Rattle.admission.specs.Tests.{aboveBurst}
 use Rattle.quantity.specs.Charge.{charged}
 use Rattle.records.specs.declared.Group.{Group}
 use Rattle.records.specs.declared.Stream.{Stream}
 use Rattle.records.specs.declared.Regulator.{Regulator}
 use Rattle.records.specs.declared.Regulator.the-variants.{Unset, Bucket}
-use Rattle.shaper.proofs.Judging.{Passes}
+use Rattle.admission.proofs.Tests.{Passes}
 use Rattle.records.proofs.Soundness.{SoundOk, sound-ok}
 use Rattle.shaper.proofs.Natural.{X, T-late, T-least, X-after, X-fresh}
 use Rattle.bridge.specs.Tables.{noGroup, noStream, freshBridge, groupAt, streamAt, withGroup, withStream}

@@ -19,7 +19,8 @@ use Rattle.quantity.specs.Charge.{charged}
 use Rattle.records.specs.declared.Group.{Group}
 use Rattle.records.specs.declared.Stream.{Stream}
 use Rattle.shaper.specs.declared.Judged.{Judged}
-use Rattle.shaper.proofs.Judging.{Passes, too-late, in-time}
+use Rattle.shaper.proofs.Judging.{too-late, in-time}
+use Rattle.admission.proofs.Tests.{Passes}
 use Rattle.records.proofs.Soundness.{sound-ok, group-sound}
 use Rattle.records.proofs.Fresh.{fresh-group-sound, fresh-stream-sound}
 use Rattle.shaper.proofs.Natural.{T-late, frame-kept, beside}

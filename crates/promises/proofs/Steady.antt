@@ -15,7 +15,7 @@ use Rattle.records.specs.declared.Group.{Group}
 use Rattle.records.specs.declared.Stream.{Stream}
 use Rattle.records.specs.declared.Regulator.{Regulator}
 use Rattle.records.specs.declared.Regulator.the-variants.{Unset, Bucket}
-use Rattle.shaper.proofs.Judging.{Passes}
+use Rattle.admission.proofs.Tests.{Passes}
 use Rattle.records.proofs.Soundness.{sound-ok}
 use Rattle.bridge.specs.Tables.{groupAt, streamAt, withGroup, withStream}
 use Rattle.bridge.specs.History.{Call, group, stream, frame, afterCall, after}

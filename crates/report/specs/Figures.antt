@@ -14,7 +14,8 @@ use Rattle.report.specs.Listing.{listing, listingOf, recordLines, ending
 use Rattle.quantity.specs.Charge.{chargedBits}
 use Rattle.records.specs.ExactTime.{exactly, momentOf, roundedUp, E-first}
 use Rattle.shaper.specs.Frame.{processFrame, settled, discarded, released, eligibilityTime, earliest, afterRelease, S, F, E-after}
-use Rattle.shaper.specs.Numbers.{judged, aboveBurst}
+use Rattle.shaper.specs.Numbers.{afterTests, judged}
+use Rattle.admission.specs.Tests.{aboveBurst, tested}
 use Rattle.records.specs.Numbers.{answerNumber, answerValues}
 use Rattle.records.specs.SetUp.{groupSetUp, streamSetUp, freshStream, freshGroup}
 use Rattle.records.specs.Sound.{sound, soundGroup, soundRegulator}
@@ -51,7 +52,7 @@ last-line = 101 ∷ 110 ∷ 100 ∷ 32 ∷ 53 ∷ 10 ∷ []
 
 pub example : listing (group-line ++ (stream-line ++ (frame-line ++ (frame-line ++ frame-line))))
     ≡ line-1 ++ (line-2 ++ (line-3 ++ (line-4 ++ (line-5 ++ last-line))))
-unfolding listingOf recordLines ending endLine recordLine lineOf column callOf reply afterCall groupCalled groupStored groupPlaced groupTaken streamCalled streamStored streamPlaced streamTaken frameCalled frameStored judgedAt groupAt streamAt withGroup withStream freshBridge setUpNumber groupSetUp streamSetUp freshStream freshGroup judged answerNumber answerValues aboveBurst sound soundGroup soundRegulator inRange processFrame settled discarded released eligibilityTime earliest afterRelease E-first S F E-after exactly momentOf roundedUp chargedBits contentsFrom answers onwards readAt readLeft readMarked markedAmong kinds isMark readFields fieldNumbers number total size digit lastDigits fewest digitCount decimal
+unfolding listingOf recordLines ending endLine recordLine lineOf column callOf reply afterCall groupCalled groupStored groupPlaced groupTaken streamCalled streamStored streamPlaced streamTaken frameCalled frameStored judgedAt groupAt streamAt withGroup withStream freshBridge setUpNumber groupSetUp streamSetUp freshStream freshGroup judged afterTests tested answerNumber answerValues aboveBurst sound soundGroup soundRegulator inRange processFrame settled discarded released eligibilityTime earliest afterRelease E-first S F E-after exactly momentOf roundedUp chargedBits contentsFrom answers onwards readAt readLeft readMarked markedAmong kinds isMark readFields fieldNumbers number total size digit lastDigits fewest digitCount decimal
 example = refl
 
 pub empty-file : listing [] ≡ 101 ∷ 110 ∷ 100 ∷ 32 ∷ 48 ∷ 10 ∷ []

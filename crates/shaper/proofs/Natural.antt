@@ -16,7 +16,8 @@ use Rattle.quantity.proofs.Ranges.{at-most}
 use Rattle.records.specs.ExactTime.{bitTime, tickTime, exactly, momentOf, roundedUp, orZero, E-first}
 use Rattle.shaper.specs.Frame.{burstOf, S, F, E-after, earliest, afterRelease, eligibilityTime, discarded, released, settled, processFrame}
 use Rattle.records.specs.Sound.{soundGroup, soundRegulator, sound}
-use Rattle.shaper.specs.Numbers.{aboveBurst, judged}
+use Rattle.shaper.specs.Numbers.{judged}
+use Rattle.admission.specs.Tests.{aboveBurst}
 use Rattle.quantity.specs.Charge.{charged}
 use Rattle.records.specs.SetUp.{freshStream}
 use Rattle.records.specs.Steps.{shortfall}
@@ -29,7 +30,7 @@ use Rattle.records.proofs.Integers.{sum, difference, of-lt, of-not-lt, opposite
 use Rattle.records.proofs.ExactTime.{not-before-first, first-least, exactly-of, part-of}
 use Rattle.records.proofs.Soundness.{GroupOk, group-ok, group-sound, BucketOk, bucket-ok, bucket-sound, SoundOk, sound-ok, sound-of}
 use Rattle.shaper.proofs.Buckets.{full-zero, full-below}
-use Rattle.shaper.proofs.Judging.{Passes}
+use Rattle.admission.proofs.Tests.{Passes}
 
 -- X of a regulator
 unfoldable pub X : ℕ → Regulator → ℕ

@@ -10,7 +10,8 @@ use Rattle.records.specs.ExactTime.{exactly, momentOf, roundedUp, E-first}
 use Rattle.shaper.specs.Frame.{S, F, E-after, earliest, afterRelease, eligibilityTime, discarded, released, settled, processFrame}
 use Rattle.records.specs.Sound.{soundGroup, soundRegulator, sound}
 use Rattle.records.specs.SetUp.{freshGroup, freshStream}
-use Rattle.shaper.specs.Numbers.{aboveBurst, judged}
+use Rattle.shaper.specs.Numbers.{afterTests, judged}
+use Rattle.admission.specs.Tests.{aboveBurst, tested}
 use Rattle.records.specs.Numbers.{answerNumber, answerValues}
 use Rattle.records.specs.declared.Moment.{Moment}
 use Rattle.records.specs.declared.Stream.{Stream}
@@ -112,5 +113,5 @@ expected =
 
 -- the definitions give every P row
 pub figures : given ≡ expected
-unfolding given expected startRow rowOf answerRow answerOf emptyOf next nextOf firstFrame frames freshStream freshGroup judged answerNumber answerValues aboveBurst sound soundGroup soundRegulator inRange processFrame settled discarded released eligibilityTime earliest afterRelease E-first S F E-after exactly momentOf roundedUp chargedBits
+unfolding given expected startRow rowOf answerRow answerOf emptyOf next nextOf firstFrame frames freshStream freshGroup judged afterTests tested answerNumber answerValues aboveBurst sound soundGroup soundRegulator inRange processFrame settled discarded released eligibilityTime earliest afterRelease E-first S F E-after exactly momentOf roundedUp chargedBits
 figures = refl

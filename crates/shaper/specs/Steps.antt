@@ -1,28 +1,17 @@
 -- What the steps of the code's exact time give, as facts that its callers use. No sentence of document 01 stands here.
 -- r is a stream's rate; a span is a length of time as the code holds it.
-use Prim.Native.Nat.{ℕ, suc, _+_, _*_, _<_, _≤_}
+use Prim.Native.Nat.{ℕ, _+_, _*_, _<_, _≤_}
 use mathlib.Core.Path.{_≡_}
-use mathlib.Core.Bool.{not, cond}
-use lib.Dec.{ltb}
-use lib.IntN.{ℤ, pos, negsuc, _+ℤ_}
-use Rattle.records.specs.declared.Moment.{Moment}
-use Rattle.shaper.specs.declared.Span.{Span}
-use Rattle.quantity.specs.Ranges.{inRange, mostOf}
-use Rattle.quantity.specs.declared.Item.the-variants.{Octets, StreamRate, Burst, Residence, Arrival}
-use Rattle.quantity.specs.declared.Refusal.the-variants.{Unsound, NoStream, LengthRange, AboveBurst, TooLate, BeforeLast}
-use Rattle.records.specs.declared.Regulator.{Regulator}
-use Rattle.records.specs.declared.Regulator.the-variants.{Unset, Bucket}
+use lib.IntN.{pos, _+ℤ_}
+use Rattle.quantity.specs.Ranges.{mostOf}
+use Rattle.quantity.specs.declared.Item.the-variants.{StreamRate, Burst, Residence, Arrival}
 use Rattle.records.specs.ExactTime.{bitTime, exactly, orZero}
 use Rattle.records.specs.Steps.{shortfall}
+use Rattle.records.specs.declared.Moment.{Moment}
+use Rattle.records.specs.declared.Regulator.{Regulator}
+use Rattle.records.specs.declared.Regulator.the-variants.{Unset, Bucket}
 use Rattle.shaper.specs.Frame.{F}
-use Rattle.records.specs.Sound.{sound}
-use Rattle.records.specs.Numbers.{isSetUp}
-use Rattle.shaper.specs.Numbers.{aboveBurst}
-use Rattle.quantity.specs.Charge.{charged}
-use Rattle.records.specs.declared.Group.{Group}
-use Rattle.records.specs.declared.Stream.{Stream}
-use Rattle.shaper.specs.declared.Tested.{Tested}
-use Rattle.shaper.specs.declared.Tested.the-variants.{Refused, Charged}
+use Rattle.shaper.specs.declared.Span.{Span}
 
 -- a span, in r-ths of a tick
 unfoldable pub spanTime : ℕ → Span → ℕ
@@ -74,15 +63,3 @@ pub record BucketWorks (r b : ℕ) (e : Moment) (L : ℕ) : Type 0 where
 unfoldable pub Works : ℕ → Regulator → ℕ → Type 0
 Works r Unset L = Unit {0}
 Works r (Bucket b e) L = BucketWorks r (b .0) e L
-
--- what the tests before judging make of a frame of n octets arriving at A: a refusal, or its charged bits; `judged-by-tests`
--- in proofs/Judging.antt says that the frame is then refused, or processed with those
-unfoldable pub tested : Stream → Group → ℕ → ℕ → Tested
-tested s g n A =
-    cond (not (isSetUp (s .regulator))) (Refused NoStream)
-    (cond (not (sound s g)) (Refused Unsound)
-    (cond (not (inRange Octets n)) (Refused LengthRange)
-    (cond (aboveBurst (s .regulator) (charged n)) (Refused AboveBurst)
-    (cond (not (inRange Arrival A)) (Refused TooLate)
-    (cond (ltb A (g .last .0)) (Refused BeforeLast)
-    (Charged (record { 0 = charged n })))))))

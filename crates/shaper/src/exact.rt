@@ -8,7 +8,6 @@ use records::Moment;
 ghost use mathlib.Core.Path.{_≡_};
 ghost use Prim.Native.Nat.{ℕ, _+_, _*_, _<_, _≤_, _^_};
 ghost use lib.IntN.{pos, _+ℤ_};
-ghost use lib.Signed.{ltZ};
 ghost use Rattle.records.specs.ExactTime.{orZero, exactly, roundedUp};
 ghost use Rattle.records.specs.Steps.{shortfall};
 ghost use Rattle.shaper.specs.Steps.{spanTime, Lasts, Later, Fills};
@@ -19,19 +18,6 @@ fn raised(a: i64, n: u64) -> i64
     ensures { λ r. ⌜ r ≡ a +ℤ pos n ⌝ }
 {
     a + (n as i64)
-}
-
-// a, or 0 where a is below 0.
-fn clipped(a: i64) -> u64
-    ensures { λ r. ⌜ r ≡ orZero a ⌝ }
-{
-    if a < 0 { 0 } else { a as u64 }
-}
-
-pub(crate) fn negative(a: i64) -> bool
-    ensures { λ r. ⌜ r ≡ ltZ a (pos 0) ⌝ }
-{
-    a < 0
 }
 
 // How long the bits take at the rate.
@@ -73,15 +59,15 @@ pub(crate) fn later(m: Moment, span: Span, rate: Rate) -> Moment
 pub(crate) fn first_tick(m: Moment) -> Ticks
     ensures { λ t. ⌜ ((r : ℕ) → m .part < r → t .0 ≡ orZero (roundedUp r (exactly r m))) ⌝ }
 {
-    let whole = clipped(m.ticks);
+    let ticks = m.ticks;
     let part = m.part;
-    if negative(m.ticks) {
+    if ticks < 0 {
         return Ticks(0);
     }
     if part == 0 {
-        return Ticks(whole);
+        return Ticks(ticks as u64);
     }
-    Ticks(whole + 1)
+    Ticks(ticks as u64 + 1)
 }
 
 // How long it is from m, which is not below 0, to the tick t.
@@ -90,7 +76,7 @@ pub(crate) fn until(m: Moment, t: Ticks, rate: Rate) -> Span
     requires { ⌜ orZero (exactly (rate .0) m) ≤ t .0 * rate .0 ⌝ }
     ensures { λ s. ⌜ Fills (rate .0) m (t .0) s ⌝ }
 {
-    let from = clipped(m.ticks);
+    let from = m.ticks as u64;
     let part = m.part;
     let to = t.0;
     let r = rate.0;

@@ -1,25 +1,21 @@
 // One frame through a scheduler: its eligibility time, and the records after it.
 use crate::Judged;
-use crate::Tested;
 use crate::exact::first_tick;
 use crate::exact::lasting;
 use crate::exact::later;
 use crate::exact::until;
-use crate::sound::is_sound;
+use admission::Tested;
+use admission::test_frame;
 use quantity::Bits;
 use quantity::Item;
-use quantity::ORDINARY_OVERHEAD;
 use quantity::Rate;
 use quantity::Refusal;
 use quantity::Ticks;
-use quantity::charge;
-use quantity::in_range;
 use records::Answer;
 use records::Group;
 use records::Moment;
 use records::Regulator;
 use records::Stream;
-use records::is_set_up;
 ghost use mathlib.Core.Path.{_≡_};
 ghost use mathlib.Core.Bool.{true, false};
 ghost use Prim.Native.Nat.{_≤_, max};
@@ -27,22 +23,14 @@ ghost use Rattle.quantity.specs.Ranges.{inRange};
 ghost use Rattle.records.specs.ExactTime.{exactly, momentOf};
 ghost use Rattle.shaper.specs.Frame.{E-after, earliest, afterRelease, eligibilityTime, discarded as discardedOf, released as releasedOf, processFrame};
 ghost use Rattle.records.specs.Sound.{sound};
-ghost use Rattle.shaper.specs.Numbers.{aboveBurst, refused as refusedOf, judged};
-ghost use Rattle.shaper.specs.Steps.{latestRelease, BucketWorks, Works, StartsAt, ChargedTo, tested};
+ghost use Rattle.admission.specs.Tests.{aboveBurst};
+ghost use Rattle.shaper.specs.Numbers.{refused as refusedOf, judged};
+ghost use Rattle.shaper.specs.Steps.{latestRelease, BucketWorks, Works, StartsAt, ChargedTo};
 
 fn later_of(a: Ticks, b: Ticks) -> Ticks
     ensures { λ r. ⌜ r .0 ≡ max (a .0) (b .0) ⌝ }
 {
     if a.0 < b.0 { b } else { a }
-}
-
-fn above_burst(regulator: Regulator, bits: Bits) -> bool
-    ensures { λ r. ⌜ r ≡ aboveBurst regulator (bits .0) ⌝ }
-{
-    match regulator {
-        Regulator::Unset => false,
-        Regulator::Bucket { burst, empty: _ } => burst.0 < bits.0,
-    }
 }
 
 // The bucket empty time and so many bits more: S for a frame's bits, F for the burst.
@@ -162,36 +150,6 @@ fn refused(stream: Stream, group: Group, why: Refusal) -> Judged
         stream,
         group,
     }
-}
-
-// The tests that stand before judging, in their order. Their own function, so that `judge` has two ways only and the
-// compiler makes one piece of it.
-fn test_frame(stream: Stream, group: Group, octets: u16, arrival: Ticks) -> Tested
-    ensures { λ r. ⌜ r ≡ tested stream group octets (arrival .0) ⌝ }
-{
-    let at = arrival.0;
-    let last = group.last.0;
-    let regulator = stream.regulator;
-    if !is_set_up(regulator) {
-        return Tested::Refused(Refusal::NoStream);
-    }
-    if !is_sound(stream, group) {
-        return Tested::Refused(Refusal::Unsound);
-    }
-    if !in_range(Item::Octets, octets as u64) {
-        return Tested::Refused(Refusal::LengthRange);
-    }
-    let bits = charge(octets, ORDINARY_OVERHEAD);
-    if above_burst(regulator, bits) {
-        return Tested::Refused(Refusal::AboveBurst);
-    }
-    if !in_range(Item::Arrival, at) {
-        return Tested::Refused(Refusal::TooLate);
-    }
-    if at < last {
-        return Tested::Refused(Refusal::BeforeLast);
-    }
-    Tested::Charged(bits)
 }
 
 // One frame through a scheduler: refused, discarded or released, with the records after it.

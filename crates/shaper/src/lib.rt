@@ -1,12 +1,9 @@
 // The shaper core: one frame, one stream, one group, by value, exactly as the standard's ProcessFrame has it.
-// Exact time, what is sound and `judge` live here; the records stand below, tables, queues and files above.
+// Exact time and `judge` live here; the records and the tests before judging stand below, tables, queues and files above.
 mod exact;
 mod frame;
-mod sound;
 
 pub use frame::judge;
-use quantity::Bits;
-use quantity::Refusal;
 use records::Answer;
 use records::Group;
 use records::Stream;
@@ -22,10 +19,4 @@ pub struct Judged {
     pub answer: Answer,
     pub stream: Stream,
     pub group: Group,
-}
-
-// What the tests before judging make of a frame: a refusal, or its charged bits.
-enum Tested {
-    Refused(Refusal),
-    Charged(Bits),
 }

@@ -2,8 +2,9 @@
 use borrow.Author.Needs.{needs}
 use mathlib.Core.Path.{_≡_, sym, ap, subst, _∙_}
 use Prim.Native.Nat.{ℕ}
-use Rattle.shaper.specs.Numbers.{aboveBurst}
-use Rattle.shaper.proofs.Judging.{Said, said, test-refuses, test-charges}
+use Rattle.admission.specs.Tests.{aboveBurst}
+use Rattle.admission.proofs.Tests.{Said, said}
+use Rattle.shaper.proofs.Judging.{test-refuses, test-charges}
 use Rattle.shaper.proofs.frame.judge.Statement.{statement}
 use Rattle.shaper.proofs.frame.judge.Tie as tie
 

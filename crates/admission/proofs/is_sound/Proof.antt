@@ -1,16 +1,14 @@
--- `shaper::sound::is_sound` meets its contract: each return has the tests that led there. Assumes nothing.
+-- `admission::is_sound` meets its contract: each return has the tests that led there. Assumes nothing.
 use borrow.Author.Needs.{needs}
 use mathlib.Core.Path.{_≡_, sym, ap, _∙_}
 use mathlib.Core.Bool.{true, _&&_}
-use native.Mathlib.Omega.{arith}
 use Rattle.quantity.specs.Ranges.{inRange}
 use Rattle.quantity.specs.declared.Item.the-variants.{GroupId, StreamRate}
 use Rattle.quantity.proofs.Booleans.{refuted, confirmed}
 use Rattle.records.specs.Sound.{sound, soundGroup, soundRegulator}
 use Rattle.records.specs.declared.Regulator.{Regulator}
-use Rattle.records.proofs.Soundness.{group-ok}
-use Rattle.shaper.proofs.sound.is_sound.Statement.{statement}
-use Rattle.shaper.proofs.sound.is_sound.Tie as tie
+use Rattle.admission.proofs.is_sound.Statement.{statement}
+use Rattle.admission.proofs.is_sound.Tie as tie
 
 sound-group-requires : tie.Need-sound-group-requires
 sound-group-requires c κs = search needs
@@ -68,10 +66,7 @@ enum-known-regulator : tie.Need-enum-known-regulator
 enum-known-regulator c = search needs
 
 sound-bucket-requires : tie.Need-sound-bucket-requires
-sound-bucket-requires c κs =
-    let e = c .before .before .before in
-    let ok = group-ok _ (group-sound (e .before .before .before .before)) in
-    (rate-in e, omega arith)
+sound-bucket-requires c κs = rate-in (c .before .before .before)
 
 returns-5 : tie.Need-returns-5
 returns-5 c =

@@ -1,4 +1,4 @@
--- `shaper::frame::test_frame` meets its contract: each return has the tests that led there. Assumes nothing.
+-- `admission::test_frame` meets its contract: each return has the tests that led there. Assumes nothing.
 use borrow.Author.Needs.{needs}
 use mathlib.Core.Path.{_≡_, sym, ap, _∙_}
 use mathlib.Core.Bool.{true, false}
@@ -9,12 +9,12 @@ use Rattle.quantity.specs.declared.Item.the-variants.{Octets, Arrival}
 use Rattle.quantity.proofs.Booleans.{refuted, confirmed}
 use Rattle.records.specs.Sound.{sound}
 use Rattle.records.specs.Numbers.{isSetUp}
-use Rattle.shaper.specs.Numbers.{aboveBurst}
+use Rattle.admission.specs.Tests.{aboveBurst}
 use Rattle.quantity.specs.Charge.{charged}
-use Rattle.shaper.specs.declared.Tested.the-variants.{Charged}
-use Rattle.shaper.proofs.Judging.{test-10, test-9, test-11, test-12, test-13, test-14, none-refuses}
-use Rattle.shaper.proofs.frame.test_frame.Statement.{statement}
-use Rattle.shaper.proofs.frame.test_frame.Tie as tie
+use Rattle.admission.specs.declared.Tested.the-variants.{Charged}
+use Rattle.admission.proofs.Tests.{test-10, test-9, test-11, test-12, test-13, test-14, none-refuses}
+use Rattle.admission.proofs.test_frame.Statement.{statement}
+use Rattle.admission.proofs.test_frame.Tie as tie
 
 -- what has been passed, test by test
 set-up : (c : tie.Else1) → isSetUp (c .before .before .args .stream .regulator) ≡ true

@@ -1,10 +1,10 @@
--- `shaper::frame::above_burst` meets its contract, by cases on the regulator. Assumes nothing.
+-- `admission::above_burst` meets its contract, by cases on the regulator. Assumes nothing.
 use borrow.Author.Needs.{needs}
 use mathlib.Core.Path.{sym, ap}
-use Rattle.shaper.specs.Numbers.{aboveBurst}
+use Rattle.admission.specs.Tests.{aboveBurst}
 use Rattle.records.specs.declared.Regulator.{Regulator}
-use Rattle.shaper.proofs.frame.above_burst.Statement.{statement}
-use Rattle.shaper.proofs.frame.above_burst.Tie as tie
+use Rattle.admission.proofs.above_burst.Statement.{statement}
+use Rattle.admission.proofs.above_burst.Tie as tie
 
 enum-told : tie.Need-enum-told
 enum-told c = search needs
