@@ -40,9 +40,10 @@ use Rattle.event.specs.declared.Stop.the-variants.{Refused}
 use Rattle.event.specs.declared.Step.{Step}
 use Rattle.event.specs.declared.Step.the-variants.{Ends, Arrival, Pick}
 use Rattle.event.proofs.Steps.{Picks, step-arrives, step-picks, event-arrives, event-picks}
-use Rattle.line.specs.Run.{Input, State, step, handed, Settled, settled, frameAt, groupOf, settledAt, arrived, sendingTicks, sent, pickedAt, stopped, onward, runFor, listsFit, lineFits, runGives}
+use Rattle.line.specs.Run.{Input, State, step, handed, Settled, settled, frameAt, groupOf, settledAt, arrived, sendingTicks, sent, pickedAt, stopped, onward, runFor, listsFit, lineFits, startOf, startAt, startedBy, runGives}
 use Rattle.line.specs.Firsts.{soonBelow, smallestIn, Keeps, Enterable, TakenDue}
 use Rattle.line.specs.declared.Ran.{Ran}
+use Rattle.line.specs.declared.Start.the-variants.{Runs, NotRun}
 use Rattle.line.proofs.Noting.{smallest-is, smallest-soon}
 use Rattle.line.proofs.Settling.{settled-same, may-enter, own-group}
 
@@ -281,20 +282,25 @@ module _ (i : Input) (budget : ℕ) (s : State) where
   sound = allSound (s .waiting .times) (s .waiting .bits) (s .waiting .fills)
 
   pub gives-unfit : lists-fit ≡ false → runGives i budget s ≡ stopped (Refused ListsUnfit) s
-  unfolding runGives
+  unfolding runGives startAt startOf startedBy
   gives-unfit e = rw e refl
 
   pub gives-off-line : lists-fit ≡ true → line-fits ≡ false → runGives i budget s ≡ stopped (Refused LineUnfit) s
-  unfolding runGives
+  unfolding runGives startAt startOf startedBy
   gives-off-line e f = rw (e, f) refl
 
   pub gives-unsound : lists-fit ≡ true → line-fits ≡ true → sound ≡ false → runGives i budget s ≡ stopped (Refused Unsound) s
-  unfolding runGives
+  unfolding runGives startAt startOf startedBy
   gives-unsound e f g = rw (e, f, g) refl
 
   pub gives-run : lists-fit ≡ true → line-fits ≡ true → sound ≡ true → runGives i budget s ≡ runFor i budget s
-  unfolding runGives
+  unfolding runGives startAt startOf startedBy
   gives-run e f g = rw (e, f, g) refl
+
+  -- and by what the code's tests say
+  pub gives-refused : (why : Refusal) → startAt i s ≡ NotRun why → runGives i budget s ≡ stopped (Refused why) s
+  unfolding runGives startedBy
+  gives-refused why e = ap (startedBy i budget s) e
 
   -- a refused run gives the state that it was called in
   pub refuses : (why : Refusal) (r : Ran) → runGives i budget s ≡ stopped (Refused why) s
@@ -302,3 +308,10 @@ module _ (i : Input) (budget : ℕ) (s : State) where
       → record { ran = r; answers = s .answers; picked = s .picked; moments = s .moments } ≡ runGives i budget s
   unfolding stopped
   refuses why r e q = ap (λ (x : Ran). record { ran = x; answers = s .answers; picked = s .picked; moments = s .moments }) q ∙ sym e
+
+pub all-fit : (lists line queues : Bool) → startOf lists line queues ≡ Runs → (lists ≡ true) × ((line ≡ true) × (queues ≡ true))
+unfolding startOf
+all-fit true true true e = (refl, (refl, refl))
+all-fit false line queues e = let z : _≡_ {A = ℕ} 0 1 = cc in absurd (omega arith)
+all-fit true false queues e = let z : _≡_ {A = ℕ} 0 1 = cc in absurd (omega arith)
+all-fit true true false e = let z : _≡_ {A = ℕ} 0 1 = cc in absurd (omega arith)

@@ -33,6 +33,8 @@ use Rattle.event.specs.declared.Step.{Step}
 use Rattle.event.specs.declared.Step.the-variants.{Ends, Arrival, Pick}
 use Rattle.line.specs.declared.Handed.{Handed}
 use Rattle.line.specs.declared.Ran.{Ran}
+use Rattle.line.specs.declared.Start.{Start}
+use Rattle.line.specs.declared.Start.the-variants.{Runs, NotRun}
 
 -- ---- what a run is given, and how it stands
 
@@ -187,13 +189,26 @@ listsFit arrivals ids octets start answers =
 unfoldable pub lineFits : ℕ → ℕ → Bool
 lineFits rate free = inRange LineRate rate && inRange LineFree free
 
--- refused by 28, 29 and 9, in this order, and nothing changes; else event by event
+-- by the tests of the lists, of the line and of the queues: refused by 28, 29 and 9, in this order
+unfoldable pub startOf : Bool → Bool → Bool → Start
+startOf lists line queues =
+    cond (not lists) (NotRun ListsUnfit)
+    (cond (not line) (NotRun LineUnfit)
+    (cond (not queues) (NotRun Unsound)
+    Runs))
+
+unfoldable pub startAt : Input → State → Start
+startAt i s =
+    startOf (listsFit (length (i .arrivals)) (length (i .ids)) (length (i .octets)) (s .next) (length (s .answers))) (lineFits (i .rate) (s .free))
+    (allSound (s .waiting .times) (s .waiting .bits) (s .waiting .fills))
+
+-- a run that is refused changes nothing; else it goes event by event
+unfoldable pub startedBy : Input → ℕ → State → Start → Outcome
+startedBy i budget s Runs = runFor i budget s
+startedBy i budget s (NotRun why) = stopped (Refused why) s
+
 unfoldable pub runGives : Input → ℕ → State → Outcome
-runGives i budget s =
-    cond (not (listsFit (length (i .arrivals)) (length (i .ids)) (length (i .octets)) (s .next) (length (s .answers)))) (stopped (Refused ListsUnfit) s)
-    (cond (not (lineFits (i .rate) (s .free))) (stopped (Refused LineUnfit) s)
-    (cond (not (allSound (s .waiting .times) (s .waiting .bits) (s .waiting .fills))) (stopped (Refused Unsound) s)
-    (runFor i budget s)))
+runGives i budget s = startedBy i budget s (startAt i s)
 
 -- ---- the values that come with a stop
 

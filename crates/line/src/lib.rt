@@ -28,7 +28,7 @@ ghost use Rattle.places.specs.Queue.{classes, lists};
 ghost use Rattle.classes.specs.Soundness.{allSound};
 ghost use Rattle.firsts.specs.Firsts.{firstOf};
 ghost use Rattle.places.specs.Places.{putGives};
-ghost use Rattle.line.specs.Run.{sendingTicks, handed, settled, listsFit, lineFits, begun, runFor, runGives};
+ghost use Rattle.line.specs.Run.{sendingTicks, handed, settled, listsFit, lineFits, startOf, begun, runFor, runGives};
 ghost use Rattle.line.specs.Firsts.{timeOf, placeOf, soonBelow, smallestIn, classBelow, Noted, Keeps, entryOf, Enterable, TakenDue};
 
 // Classes are 0 up to this one.
@@ -55,6 +55,12 @@ pub struct Ran {
     pub picks: usize,
     pub bridge: Bridge,
     pub waiting: Waiting,
+}
+
+// What the tests of a run's arguments say. Public for definitions of other crates.
+pub enum Start {
+    Runs,
+    NotRun(Refusal),
 }
 
 // A class as an index; its own function, so that its use asks no proof that it fits.
@@ -313,6 +319,34 @@ fn line_fits(rate: Rate, free: Ticks) -> bool
     quantity::in_range(Item::LineFree, free.0)
 }
 
+// Tests the lengths of a run's lists, its line and its queues.
+fn start_of(
+    arrivals: usize,
+    ids: usize,
+    octets: usize,
+    start: usize,
+    answers: usize,
+    rate: Rate,
+    free: Ticks,
+    waiting: Waiting,
+) -> Start
+    ensures { λ r. ⌜ r ≡ startOf (listsFit arrivals ids octets start answers) (lineFits (rate .0) (free .0)) (allSound (waiting .times) (waiting .bits) (waiting .fills)) ⌝ }
+{
+    let times = waiting.times;
+    let bits = waiting.bits;
+    let fills = waiting.fills;
+    if !lists_fit(arrivals, ids, octets, start, answers) {
+        return Start::NotRun(Refusal::ListsUnfit);
+    }
+    if !line_fits(rate, free) {
+        return Start::NotRun(Refusal::LineUnfit);
+    }
+    if !classes::all_sound(&times, &bits, &fills) {
+        return Start::NotRun(Refusal::Unsound);
+    }
+    Start::Runs
+}
+
 // A run that did nothing.
 fn refused(why: Refusal, bridge: Bridge, waiting: Waiting, start: usize, free: Ticks) -> Ran
     ensures { λ r. ⌜ r ≡ record { stop = Stop.Refused why; next = start; free = free; events = 0; picks = 0; bridge = bridge; waiting = waiting } ⌝ }
@@ -460,36 +494,31 @@ pub fn run(
         ≡ runGives (record { arrivals = now (arrivals .entry); ids = now (ids .entry); octets = now (octets .entry); rate = rate .0 }) budget
         (begun bridge waiting start (free .0) (now (answers .entry)) (now (picked .entry)) (now (moments .entry))) ⌝ }
 {
-    if !lists_fit(
+    let test = start_of(
         arrivals.len(),
         ids.len(),
         octets.len(),
         start,
         answers.len(),
-    ) {
-        return refused(Refusal::ListsUnfit, bridge, waiting, start, free);
-    }
-    if !line_fits(rate, free) {
-        return refused(Refusal::LineUnfit, bridge, waiting, start, free);
-    }
-    let times = waiting.times;
-    let bits = waiting.bits;
-    let fills = waiting.fills;
-    if !classes::all_sound(&times, &bits, &fills) {
-        return refused(Refusal::Unsound, bridge, waiting, start, free);
-    }
-    run_events(
-        bridge,
-        waiting,
-        arrivals,
-        ids,
-        octets,
-        start,
         rate,
         free,
-        budget,
-        answers,
-        picked,
-        moments,
-    )
+        waiting,
+    );
+    match test {
+        Start::NotRun(why) => refused(why, bridge, waiting, start, free),
+        Start::Runs => run_events(
+            bridge,
+            waiting,
+            arrivals,
+            ids,
+            octets,
+            start,
+            rate,
+            free,
+            budget,
+            answers,
+            picked,
+            moments,
+        ),
+    }
 }
