@@ -7,12 +7,12 @@ use lib.Dec.{ltb}
 use lib.ListN.{getD, set}
 use lib.Seq.{set-getD}
 use borrow.Author.Tests.{ltb-true, ltb-false, lt-ltb, le-ltb}
-use Rattle.quantity.specs.Ranges.{inRange, mostOf}
+use Rattle.quantity.specs.Ranges.{inRange, mostOf, placeOf}
 use Rattle.quantity.specs.declared.Item.the-variants.{GroupId, StreamId}
 use Rattle.quantity.specs.declared.Refusal.{Refusal}
 use Rattle.quantity.specs.declared.Refusal.the-variants.{IdRange, SetUpBefore, NoStream, NoGroup, Unsound}
 use Rattle.quantity.proofs.Booleans.{cond-true, cond-false, and-false}
-use Rattle.quantity.proofs.Ranges.{at-most, within}
+use Rattle.quantity.proofs.Ranges.{at-most, within, place-in}
 use Rattle.records.specs.Sound.{sound, soundGroup}
 use Rattle.records.specs.Numbers.{isSetUp}
 use Rattle.shaper.specs.Numbers.{judged, refused}
@@ -24,9 +24,8 @@ use Rattle.records.specs.declared.Answer.{Answer}
 use Rattle.records.specs.declared.StreamSetUp.the-variants as stream
 use Rattle.shaper.proofs.Judging.{not-set-up, unsound}
 use Rattle.records.proofs.Fresh.{group-out}
-use Rattle.calls.proofs.Places.{group-in, stream-in, group-id-out, stream-id-out, frame-id-out, frame-id-in}
+use Rattle.calls.proofs.Returns.{group-id-out, stream-id-out, frame-id-out, frame-id-in}
 use Rattle.bridge.specs.Tables.{noGroup, noStream, groupAt, streamAt, withGroup, withStream}
-use Rattle.calls.specs.Places.{groupPlace, streamPlace}
 use Rattle.calls.specs.Calls.{groupTaken, groupPlaced, streamTaken, streamPlaced, judgedAt}
 use Rattle.bridge.specs.Calls.{groupStored, groupCalled, streamStored, streamCalled, frameStored, frameCalled}
 use Rattle.bridge.specs.declared.Bridge.{Bridge}
@@ -50,12 +49,12 @@ module _ (b : Bridge) (i c M : ℕ) where
   group-at-place : (p : ℕ) → PlacedGroup → BridgeSetUp
   group-at-place p x = record { answer = x .answer; bridge = record { groups = set (b .groups) p (x .group); streams = b .streams } }
 
-  pub group-call : (p : ℕ) → p ≡ groupPlace i → (x : PlacedGroup) → x ≡ groupPlaced i (getD (b .groups) p noGroup) c M → record { answer = x .answer; bridge = record { groups = set (b .groups) p (x .group); streams = b .streams } } ≡ groupCalled b i c M
+  pub group-call : (p : ℕ) → p ≡ placeOf GroupId i → (x : PlacedGroup) → x ≡ groupPlaced i (getD (b .groups) p noGroup) c M → record { answer = x .answer; bridge = record { groups = set (b .groups) p (x .group); streams = b .streams } } ≡ groupCalled b i c M
   unfolding groupCalled groupStored withGroup groupAt group-at-place
   group-call p e x y = ap (group-at-place p) y ∙ go (inRange GroupId i) refl
     where
       go : (t : Bool) → inRange GroupId i ≡ t → group-at-place p (groupPlaced i (getD (b .groups) p noGroup) c M) ≡ groupCalled b i c M
-      go true h = ap (λ (n : ℕ). group-at-place n (groupPlaced i (getD (b .groups) n noGroup) c M)) (e ∙ group-in i h)
+      go true h = ap (λ (n : ℕ). group-at-place n (groupPlaced i (getD (b .groups) n noGroup) c M)) (e ∙ place-in GroupId i h)
       go false h =
           ap (group-at-place p) (group-id-out i (getD (b .groups) p noGroup) c M h)
           ∙ ap (λ gs. record { answer = Refused IdRange; bridge = record { groups = gs; streams = b .streams } }) (set-getD (b .groups) p noGroup ∙ sym (set-getD (b .groups) i noGroup))
@@ -70,16 +69,16 @@ module _ (b : Bridge) (i k r u : ℕ) where
   unfolding streamPlaced
   any-group s g h e = simp (group-out k g r u e, group-out k h r u e)
 
-  pub stream-call : (p q : ℕ) → p ≡ streamPlace i → q ≡ groupPlace k → (x : PlacedStream) → x ≡ streamPlaced i (getD (b .streams) p noStream) k (getD (b .groups) q noGroup) r u → record { answer = x .answer; bridge = record { groups = b .groups; streams = set (b .streams) p (x .stream) } } ≡ streamCalled b i k r u
+  pub stream-call : (p q : ℕ) → p ≡ placeOf StreamId i → q ≡ placeOf GroupId k → (x : PlacedStream) → x ≡ streamPlaced i (getD (b .streams) p noStream) k (getD (b .groups) q noGroup) r u → record { answer = x .answer; bridge = record { groups = b .groups; streams = set (b .streams) p (x .stream) } } ≡ streamCalled b i k r u
   unfolding streamCalled streamStored withStream streamAt groupAt stream-at-place
   stream-call p q e f x y = ap (stream-at-place p) (y ∙ home (inRange GroupId k) refl) ∙ go (inRange StreamId i) refl
     where
       home : (t : Bool) → inRange GroupId k ≡ t → streamPlaced i (getD (b .streams) p noStream) k (getD (b .groups) q noGroup) r u ≡ streamPlaced i (getD (b .streams) p noStream) k (getD (b .groups) k noGroup) r u
-      home true h = ap (λ (n : ℕ). streamPlaced i (getD (b .streams) p noStream) k (getD (b .groups) n noGroup) r u) (f ∙ group-in k h)
+      home true h = ap (λ (n : ℕ). streamPlaced i (getD (b .streams) p noStream) k (getD (b .groups) n noGroup) r u) (f ∙ place-in GroupId k h)
       home false h = any-group (getD (b .streams) p noStream) (getD (b .groups) q noGroup) (getD (b .groups) k noGroup) h
 
       go : (t : Bool) → inRange StreamId i ≡ t → stream-at-place p (streamPlaced i (getD (b .streams) p noStream) k (getD (b .groups) k noGroup) r u) ≡ streamCalled b i k r u
-      go true h = ap (λ (n : ℕ). stream-at-place n (streamPlaced i (getD (b .streams) n noStream) k (getD (b .groups) k noGroup) r u)) (e ∙ stream-in i h)
+      go true h = ap (λ (n : ℕ). stream-at-place n (streamPlaced i (getD (b .streams) n noStream) k (getD (b .groups) k noGroup) r u)) (e ∙ place-in StreamId i h)
       go false h =
           ap (stream-at-place p) (stream-id-out i (getD (b .streams) p noStream) k (getD (b .groups) k noGroup) r u h)
           ∙ ap (λ ss. record { answer = Refused IdRange; bridge = record { groups = b .groups; streams = ss } }) (set-getD (b .streams) p noStream ∙ sym (set-getD (b .streams) i noStream))
@@ -109,7 +108,7 @@ module _ (b : Bridge) (i n A : ℕ) where
       ∙ ap (λ gs. record { answer = Answer.Refused why; bridge = record { groups = gs; streams = set (b .streams) p (getD (b .streams) p noStream) } }) (set-getD (b .groups) q noGroup)
       ∙ ap (λ ss. record { answer = Answer.Refused why; bridge = record { groups = b .groups; streams = ss } }) (set-getD (b .streams) p noStream)
 
-  pub frame-call : (p q : ℕ) → p ≡ streamPlace i → q ≡ groupPlace (getD (b .streams) p noStream .group) → (j : Judged) → j ≡ judgedAt i (getD (b .streams) p noStream) (getD (b .groups) q noGroup) n A → record { answer = j .answer; bridge = record { groups = set (b .groups) q (j .group); streams = set (b .streams) p (j .stream) } } ≡ frameCalled b i n A
+  pub frame-call : (p q : ℕ) → p ≡ placeOf StreamId i → q ≡ placeOf GroupId (getD (b .streams) p noStream .group) → (j : Judged) → j ≡ judgedAt i (getD (b .streams) p noStream) (getD (b .groups) q noGroup) n A → record { answer = j .answer; bridge = record { groups = set (b .groups) q (j .group); streams = set (b .streams) p (j .stream) } } ≡ frameCalled b i n A
   unfolding frameCalled frameStored withStream withGroup streamAt groupAt frame-at-places
   frame-call p q e f j y = ap (frame-at-places p q) y ∙ go (inRange StreamId i) refl
     where
@@ -119,8 +118,8 @@ module _ (b : Bridge) (i n A : ℕ) where
       G : ℕ → Group
       G m = getD (b .groups) m noGroup
 
-      home : (t : Bool) → inRange GroupId (S i .group) ≡ t → inRange StreamId i ≡ true → (m : ℕ) → m ≡ groupPlace (S i .group) → frame-at-places i m (judgedAt i (S i) (G m) n A) ≡ frame-at-places i (S i .group) (judgedAt i (S i) (G (S i .group)) n A)
-      home true h a m x = ap (λ (l : ℕ). frame-at-places i l (judgedAt i (S i) (G l) n A)) (x ∙ group-in (S i .group) h)
+      home : (t : Bool) → inRange GroupId (S i .group) ≡ t → inRange StreamId i ≡ true → (m : ℕ) → m ≡ placeOf GroupId (S i .group) → frame-at-places i m (judgedAt i (S i) (G m) n A) ≡ frame-at-places i (S i .group) (judgedAt i (S i) (G (S i .group)) n A)
+      home true h a m x = ap (λ (l : ℕ). frame-at-places i l (judgedAt i (S i) (G l) n A)) (x ∙ place-in GroupId (S i .group) h)
       home false h a m x =
           let w = homeless (S i) (G m) (G (S i .group)) n A h in
           frame-stays i m (w .0) _ (frame-id-in i (S i) (G m) n A a ∙ w .1)
@@ -128,9 +127,9 @@ module _ (b : Bridge) (i n A : ℕ) where
 
       go : (t : Bool) → inRange StreamId i ≡ t → frame-at-places p q (judgedAt i (S p) (G q) n A) ≡ frameCalled b i n A
       go true h =
-          let a : p ≡ i = e ∙ stream-in i h in
+          let a : p ≡ i = e ∙ place-in StreamId i h in
           ap (λ (l : ℕ). frame-at-places l q (judgedAt i (S l) (G q) n A)) a
-          ∙ home (inRange GroupId (S i .group)) refl h q (f ∙ ap (λ (l : ℕ). groupPlace (S l .group)) a)
+          ∙ home (inRange GroupId (S i .group)) refl h q (f ∙ ap (λ (l : ℕ). placeOf GroupId (S l .group)) a)
       go false h =
           frame-stays p q NoStream _ (frame-id-out i (S p) (G q) n A h)
           ∙ sym (frame-stays i (S i .group) NoStream _ (frame-id-out i (S i) (G (S i .group)) n A h))

@@ -32,7 +32,7 @@ use Rattle.bridge.specs.declared.BridgeSetUp.{BridgeSetUp}
 use Rattle.bridge.specs.declared.Framed.{Framed}
 use Rattle.calls.specs.declared.SetUp.the-variants.{Done, Refused}
 use Rattle.bridge.proofs.Tables.{same-group, same-stream}
-use Rattle.calls.proofs.Places.{group-id-out, group-before, group-taken, stream-id-out, stream-before, stream-taken, frame-id-out, frame-id-in}
+use Rattle.calls.proofs.Returns.{group-id-out, group-before, group-taken, stream-id-out, stream-before, stream-taken, frame-id-out, frame-id-in}
 
 -- ---- setting up a group
 pub record NewGroup (b : Bridge) (i c M : ℕ) : Type 0 where

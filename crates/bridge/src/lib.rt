@@ -1,14 +1,14 @@
 // The bridge's tables of 16 groups and 64 streams, and the calls on them: set up a group, set up a stream, a frame.
 // What a call makes of single records is `calls`'; here stand the tables, and which of their places change.
 use calls::SetUp;
-use calls::group_place;
 use calls::judge_at;
 use calls::place_group;
 use calls::place_stream;
-use calls::stream_place;
 use quantity::Bits;
+use quantity::Item;
 use quantity::Rate;
 use quantity::Ticks;
+use quantity::place_of;
 use records::Answer;
 use records::Group;
 use records::Regulator;
@@ -74,7 +74,7 @@ pub fn set_up_group(bridge: Bridge, id: u8, class: u8, residence: Ticks) -> Brid
 {
     let mut groups = bridge.groups;
     let streams = bridge.streams;
-    let at = group_place(id);
+    let at = place_of(Item::GroupId, id);
     let placed = place_group(id, groups[at], class, residence);
     let after = placed.group;
     let answer = placed.answer;
@@ -91,8 +91,8 @@ pub fn set_up_stream(bridge: Bridge, id: u8, group: u8, rate: Rate, burst: Bits)
 {
     let groups = bridge.groups;
     let mut streams = bridge.streams;
-    let at = stream_place(id);
-    let of = group_place(group);
+    let at = place_of(Item::StreamId, id);
+    let of = place_of(Item::GroupId, group);
     let placed = place_stream(id, streams[at], group, groups[of], rate, burst);
     let after = placed.stream;
     let answer = placed.answer;
@@ -109,9 +109,9 @@ pub fn frame(bridge: Bridge, id: u8, octets: u16, arrival: Ticks) -> Framed
 {
     let mut groups = bridge.groups;
     let mut streams = bridge.streams;
-    let at = stream_place(id);
+    let at = place_of(Item::StreamId, id);
     let stream = streams[at];
-    let of = group_place(stream.group);
+    let of = place_of(Item::GroupId, stream.group);
     let judged = judge_at(id, stream, groups[of], octets, arrival);
     let answer = judged.answer;
     let stream_after = judged.stream;

@@ -1,4 +1,4 @@
-// The calls by id on single records: which place an id has, and what a set-up or a frame makes of the record there.
+// The calls by id on single records: what a set-up or a frame makes of the record at an id's place.
 // The work on one record is `records`' and `shaper`'s; here stand the ids and the order of their refusals. A loop over
 // many calls keeps the tables as its own arrays and makes these calls, so that no table is copied for a frame.
 use quantity::Bits;
@@ -15,7 +15,6 @@ use records::Stream;
 use records::StreamSetUp;
 use shaper::Judged;
 ghost use mathlib.Core.Path.{_≡_};
-ghost use Rattle.calls.specs.Places.{groupPlace, streamPlace};
 ghost use Rattle.calls.specs.Calls.{judgedAt, groupPlaced, streamPlaced};
 ghost use Rattle.calls.specs.Numbers.{setUpNumber};
 
@@ -43,20 +42,6 @@ pub fn set_up_number(answer: SetUp) -> u8
         SetUp::Done => 0,
         SetUp::Refused(why) => refusal_number(why),
     }
-}
-
-// A group's place in the table; 0 for an id out of range, whose record no call changes.
-pub fn group_place(id: u8) -> usize
-    ensures { λ r. ⌜ r ≡ groupPlace id ⌝ }
-{
-    if id < 16 { id as usize } else { 0 }
-}
-
-// A stream's place in the table; 0 for an id out of range, whose record no call changes.
-pub fn stream_place(id: u8) -> usize
-    ensures { λ r. ⌜ r ≡ streamPlace id ⌝ }
-{
-    if id < 64 { id as usize } else { 0 }
 }
 
 fn kept_group(group: Group, why: Refusal) -> PlacedGroup

@@ -8,11 +8,11 @@ use lib.Dec.{ltb}
 use lib.ListN.{getD}
 use borrow.Author.Tests.{ltb-false, not-true, not-false}
 use Rattle.quantity.specs.Numbers.{numberOf}
-use Rattle.quantity.specs.declared.Item.the-variants.{EntryTime, Arrival, StreamId}
+use Rattle.quantity.specs.declared.Item.the-variants.{EntryTime, Arrival, StreamId, GroupId}
 use Rattle.quantity.specs.declared.Refusal.{Refusal}
 use Rattle.quantity.specs.declared.Refusal.the-variants.{ClassFull}
 use Rattle.quantity.specs.declared.Ticks.{Ticks}
-use Rattle.quantity.proofs.Ranges.{within, at-most}
+use Rattle.quantity.proofs.Ranges.{within, at-most, place-most, place-in}
 use Rattle.shaper.specs.Frame.{eligibilityTime, discarded, released, processFrame, settled as settledBy}
 use Rattle.quantity.specs.Charge.{charged}
 use Rattle.records.specs.Numbers.{answerNumber}
@@ -30,11 +30,10 @@ use Rattle.places.specs.declared.Waiting.{Waiting}
 use Rattle.classes.specs.declared.Entered.the-variants.{Done, Refused as NotEntered}
 use Rattle.waiting.proofs.Kept.{enter-untested}
 use Rattle.bridge.specs.Tables.{noGroup, noStream, groupAt, streamAt}
-use Rattle.calls.specs.Places.{groupPlace, streamPlace}
+use Rattle.quantity.specs.Ranges.{placeOf}
 use Rattle.bridge.specs.Calls.{frameStored, frameCalled}
 use Rattle.bridge.specs.declared.Bridge.{Bridge}
 use Rattle.bridge.specs.declared.Framed.{Framed}
-use Rattle.calls.proofs.Places.{group-own, stream-own, group-below, stream-below}
 use Rattle.bridge.proofs.Views.{JudgedFrame, frame-view}
 use Rattle.line.specs.Run.{handed, entered, settled}
 use Rattle.line.specs.Firsts.{Enterable}
@@ -108,19 +107,19 @@ module _ (b : Bridge) (i n A : ℕ) (T : Ticks) (e : frameCalled b i n A .answer
       }
 
   -- the places where the code looks are its stream's and its group's
-  pub own-group : (p q : ℕ) → p ≡ streamPlace i → q ≡ groupPlace (getD (b .streams) p noStream .group) → getD (b .groups) q noGroup ≡ groupAt b (streamAt b i .group)
+  pub own-group : (p q : ℕ) → p ≡ placeOf StreamId i → q ≡ placeOf GroupId (getD (b .streams) p noStream .group) → getD (b .groups) q noGroup ≡ groupAt b (streamAt b i .group)
   unfolding groupAt streamAt
   own-group p q x y =
       let v = was-judged in
       let o = sound-ok (streamAt b i) (groupAt b (streamAt b i .group)) (v .passes .records) in
-      let a : p ≡ i = x ∙ stream-own i (omega (arith, at-most StreamId i (v .id))) in
+      let a : p ≡ i = x ∙ place-in StreamId i (v .id) in
       let c : q ≡ getD (b .streams) i noStream .group =
-      y ∙ ap (λ (j : ℕ). groupPlace (getD (b .streams) j noStream .group)) a ∙ group-own (getD (b .streams) i noStream .group) (omega (arith, o .id)) in
+      y ∙ ap (λ (j : ℕ). placeOf GroupId (getD (b .streams) j noStream .group)) a ∙ place-in GroupId (getD (b .streams) i noStream .group) (within GroupId (getD (b .streams) i noStream .group) (omega arith) (o .id)) in
       ap (λ (j : ℕ). getD (b .groups) j noGroup) c
 
 -- ---- the places that the code finds are in the tables
-pub stream-found : (p i : ℕ) → p ≡ streamPlace i → p < 64
-stream-found p i e = rw e (stream-below i)
+pub stream-found : (p i : ℕ) → p ≡ placeOf StreamId i → p < 64
+stream-found p i e = omega (arith, place-most StreamId i)
 
-pub group-found : (q i : ℕ) → q ≡ groupPlace i → q < 16
-group-found q i e = rw e (group-below i)
+pub group-found : (q i : ℕ) → q ≡ placeOf GroupId i → q < 16
+group-found q i e = omega (arith, place-most GroupId i)

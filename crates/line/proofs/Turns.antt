@@ -7,8 +7,8 @@ use native.Mathlib.Omega.{arith}
 use lib.Dec.{leb, eqb}
 use lib.ListN.{length, getD, set, length-set}
 use borrow.Author.Tests.{leb-true, eqb-true}
-use Rattle.quantity.specs.Ranges.{inRange, mostOf}
-use Rattle.quantity.specs.declared.Item.the-variants.{LineRate, LineFree, ListPlaces}
+use Rattle.quantity.specs.Ranges.{inRange, mostOf, placeOf}
+use Rattle.quantity.specs.declared.Item.the-variants.{LineRate, LineFree, ListPlaces, GroupId, StreamId}
 use Rattle.quantity.specs.declared.Refusal.{Refusal}
 use Rattle.quantity.specs.declared.Refusal.the-variants.{Unsound, ListsUnfit, LineUnfit}
 use Rattle.quantity.specs.declared.Ticks.{Ticks}
@@ -28,7 +28,6 @@ use Rattle.places.specs.declared.Picked.the-variants.{Leaves}
 use Rattle.places.specs.declared.AfterPick.{AfterPick}
 use Rattle.waiting.proofs.Kept.{pick-untested}
 use Rattle.bridge.specs.Tables.{noGroup, noStream}
-use Rattle.calls.specs.Places.{groupPlace, streamPlace}
 use Rattle.calls.specs.Calls.{judgedAt}
 use Rattle.bridge.specs.Calls.{frameCalled}
 use Rattle.bridge.specs.declared.Bridge.{Bridge}
@@ -184,7 +183,7 @@ module _ (i : Input) (budget : ℕ) (s₀ s : State) (firsts places : List ℕ) 
     abbrev A : ℕ
     A = getD (i .arrivals) (s .next) 0
 
-    module _ (at of : ℕ) (x : at ≡ streamPlace id) (y : of ≡ groupPlace (getD (b .streams) at noStream .group)) (j : Judged)
+    module _ (at of : ℕ) (x : at ≡ placeOf StreamId id) (y : of ≡ placeOf GroupId (getD (b .streams) at noStream .group)) (j : Judged)
         (z : j ≡ judgedAt id (getD (b .streams) at noStream) (getD (b .groups) of noGroup) n A) where
       framed : record { answer = j .answer; bridge = record { groups = set (b .groups) of (j .group); streams = set (b .streams) at (j .stream) } } ≡ frameAt i b (s .next)
       unfolding frameAt

@@ -426,9 +426,9 @@ fn run_events(
             }
             Step::Arrival => {
                 let id = ids[next];
-                let at = calls::stream_place(id);
+                let at = quantity::place_of(Item::StreamId, id);
                 let stream = streams[at];
-                let of = calls::group_place(stream.group);
+                let of = quantity::place_of(Item::GroupId, stream.group);
                 let group = groups[of];
                 let length = octets[next];
                 let arrival = arrivals[next];

@@ -1,12 +1,13 @@
 -- Laws of ranges: a number is in an item's range exactly when it is between the two ends. Assumes nothing.
-use mathlib.Core.Path.{_≡_}
-use mathlib.Core.Bool.{true, false}
+use mathlib.Core.Path.{_≡_, refl}
+use mathlib.Core.Bool.{Bool, true, false, cond}
 use Prim.Native.Nat.{ℕ, _≤_, _<_}
+use native.Mathlib.Omega.{arith}
 use lib.Dec.{leb}
 use borrow.Author.Tests.{leb-true, le-leb, lt-leb}
-use Rattle.quantity.specs.Ranges.{leastOf, mostOf, inRange}
+use Rattle.quantity.specs.Ranges.{leastOf, mostOf, inRange, placeOf}
 use Rattle.quantity.specs.declared.Item.{Item}
-use Rattle.quantity.proofs.Booleans.{both, and-false}
+use Rattle.quantity.proofs.Booleans.{both, and-false, cond-true, cond-false}
 
 module _ (i : Item) (n : ℕ) where
   pub within : leastOf i ≤ n → n ≤ mostOf i → inRange i n ≡ true
@@ -33,3 +34,20 @@ module _ (i : Item) (n : ℕ) where
   pub at-most : inRange i n ≡ true → n ≤ mostOf i
   unfolding inRange
   at-most e = leb-true _ _ (both (leb (leastOf i) n) (leb n (mostOf i)) e .1)
+
+  -- ---- the place of an id
+  pub place-in : inRange i n ≡ true → placeOf i n ≡ n
+  unfolding placeOf
+  place-in e = cond-true (inRange i n) n 0 e
+
+  pub place-out : inRange i n ≡ false → placeOf i n ≡ 0
+  unfolding placeOf
+  place-out e = cond-false (inRange i n) n 0 e
+
+  pub place-most : placeOf i n ≤ mostOf i
+  unfolding placeOf
+  place-most = go (inRange i n) refl
+    where
+      go : (t : Bool) → inRange i n ≡ t → cond t n 0 ≤ mostOf i
+      go true e = at-most e
+      go false e = omega arith

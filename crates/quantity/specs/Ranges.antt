@@ -1,7 +1,7 @@
 -- Document 01, 'Quantities': the ranges, both ends included; and the limits that other sections give.
 -- An item is a row of the table; n is a number that is to be in its range.
 use Prim.Native.Nat.{ℕ}
-use mathlib.Core.Bool.{Bool, _&&_}
+use mathlib.Core.Bool.{Bool, cond, _&&_}
 use lib.Dec.{leb}
 use Rattle.quantity.specs.declared.Item.{Item}
 use Rattle.quantity.specs.declared.Item.the-variants.{StreamId, GroupId, Class, Octets, StreamRate, Burst, Residence, Arrival, LineRate, Charge, EntryTime, PickMoment, LineFree, ListPlaces}
@@ -43,3 +43,7 @@ mostOf ListPlaces = 65_536
 -- n is within the range of the item
 unfoldable pub inRange : Item → ℕ → Bool
 inRange i n = leb (leastOf i) n && leb n (mostOf i)
+
+-- where a table is looked at for an id: at its place, or at place 0 for an id out of range
+unfoldable pub placeOf : Item → ℕ → ℕ
+placeOf i n = cond (inRange i n) n 0

@@ -2,7 +2,7 @@
 // document 01 by name, the charged bits of a frame, and the names of the refusals with their numbers.
 // No record, no queue and no rule of judging lives here.
 ghost use mathlib.Core.Path.{_≡_};
-ghost use Rattle.quantity.specs.Ranges.{leastOf, mostOf, inRange};
+ghost use Rattle.quantity.specs.Ranges.{leastOf, mostOf, inRange, placeOf};
 ghost use Rattle.quantity.specs.Charge.{chargedBits};
 ghost use Rattle.quantity.specs.Numbers.{numberOf};
 
@@ -130,6 +130,17 @@ pub fn in_range(item: Item, n: u64) -> bool
         return false;
     }
     n <= most(item)
+}
+
+// Where a table holds the record of an id: at the id; at place 0 for one out of range, whose record no call changes.
+pub fn place_of(item: Item, id: u8) -> usize
+    ensures { λ r. ⌜ r ≡ placeOf item id ⌝ }
+{
+    if in_range(item, id as u64) {
+        id as usize
+    } else {
+        0
+    }
 }
 
 // Why a call is refused: a name for each number of document 01's table from 9 up.

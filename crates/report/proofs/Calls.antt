@@ -11,7 +11,8 @@ use Rattle.records.specs.declared.Group.{Group}
 use Rattle.records.specs.declared.Stream.{Stream}
 use Rattle.shaper.specs.declared.Judged.{Judged}
 use Rattle.bridge.specs.Tables.{noGroup, noStream}
-use Rattle.calls.specs.Places.{groupPlace, streamPlace}
+use Rattle.quantity.specs.Ranges.{placeOf}
+use Rattle.quantity.specs.declared.Item.the-variants.{GroupId, StreamId}
 use Rattle.calls.specs.Calls.{groupPlaced, streamPlaced, judgedAt}
 use Rattle.calls.specs.Numbers.{setUpNumber}
 use Rattle.bridge.specs.History.{Call, group, stream, frame, Reply, reply, afterCall}
@@ -24,7 +25,7 @@ use Rattle.bridge.proofs.Tables.{group-call, stream-call, frame-call}
 use Rattle.report.specs.Steps.{valuesOf, replyOf, setUpAnswer, shownOf, frameAnswer, streamOf, groupOf, groupCarried, streamCarried, frameCarried, carriedOut}
 use Rattle.report.specs.declared.Carried.{Carried}
 
-module _ (b : Bridge) (i c M p : ℕ) (e : p ≡ groupPlace i) (x : PlacedGroup) (y : x ≡ groupPlaced i (getD (b .groups) p noGroup) c M) where
+module _ (b : Bridge) (i c M p : ℕ) (e : p ≡ placeOf GroupId i) (x : PlacedGroup) (y : x ≡ groupPlaced i (getD (b .groups) p noGroup) c M) where
   group-after : record { groups = set (b .groups) p (x .group); streams = b .streams } ≡ afterCall b (group i c M)
   unfolding afterCall
   group-after = ap (λ (s : BridgeSetUp). s .bridge) (group-call b i c M p e x y)
@@ -34,7 +35,7 @@ module _ (b : Bridge) (i c M p : ℕ) (e : p ≡ groupPlace i) (x : PlacedGroup)
   group-replies =
       ap (λ (s : BridgeSetUp). record { number = setUpNumber (s .answer); values = [] }) (group-call b i c M p e x y)
 
-module _ (b : Bridge) (i k r u p q : ℕ) (e : p ≡ streamPlace i) (f : q ≡ groupPlace k) (x : PlacedStream) (y : x ≡ streamPlaced i (getD (b .streams) p noStream) k (getD (b .groups) q noGroup) r u) where
+module _ (b : Bridge) (i k r u p q : ℕ) (e : p ≡ placeOf StreamId i) (f : q ≡ placeOf GroupId k) (x : PlacedStream) (y : x ≡ streamPlaced i (getD (b .streams) p noStream) k (getD (b .groups) q noGroup) r u) where
   stream-after : record { groups = b .groups; streams = set (b .streams) p (x .stream) } ≡ afterCall b (stream i k r u)
   unfolding afterCall
   stream-after = ap (λ (s : BridgeSetUp). s .bridge) (stream-call b i k r u p q e f x y)
@@ -51,7 +52,7 @@ shown-values (Released T) = refl
 shown-values (Discarded T) = refl
 shown-values (Refused why) = refl
 
-module _ (b : Bridge) (i n A p q : ℕ) (e : p ≡ streamPlace i) (f : q ≡ groupPlace (getD (b .streams) p noStream .group)) (j : Judged) (y : j ≡ judgedAt i (getD (b .streams) p noStream) (getD (b .groups) q noGroup) n A) where
+module _ (b : Bridge) (i n A p q : ℕ) (e : p ≡ placeOf StreamId i) (f : q ≡ placeOf GroupId (getD (b .streams) p noStream .group)) (j : Judged) (y : j ≡ judgedAt i (getD (b .streams) p noStream) (getD (b .groups) q noGroup) n A) where
   frame-after : record { groups = set (b .groups) q (j .group); streams = set (b .streams) p (j .stream) } ≡ afterCall b (frame i n A)
   unfolding afterCall
   frame-after = ap (λ (s : Framed). s .bridge) (frame-call b i n A p q e f j y)
@@ -64,11 +65,11 @@ module _ (b : Bridge) (i n A p q : ℕ) (e : p ≡ streamPlace i) (f : q ≡ gro
 
 -- ---- the three as one: p and q are the places that the code found, s and k the ids that it found them by
 
-module _ (b : Bridge) (call : Call) (p q s k : ℕ) (e : p ≡ streamPlace s) (es : s ≡ streamOf call) (f : q ≡ groupPlace k) (fk : k ≡ groupOf call (getD (b .streams) p noStream .group)) (x : Carried) (y : x ≡ carriedOut call (getD (b .streams) p noStream) (getD (b .groups) q noGroup)) where
+module _ (b : Bridge) (call : Call) (p q s k : ℕ) (e : p ≡ placeOf StreamId s) (es : s ≡ streamOf call) (f : q ≡ placeOf GroupId k) (fk : k ≡ groupOf call (getD (b .streams) p noStream .group)) (x : Carried) (y : x ≡ carriedOut call (getD (b .streams) p noStream) (getD (b .groups) q noGroup)) where
   stored : Carried → Bridge
   stored z = record { groups = set (b .groups) q (z .group); streams = set (b .streams) p (z .stream) }
 
-  stored-is : (c : Call) → p ≡ streamPlace (streamOf c) → q ≡ groupPlace (groupOf c (getD (b .streams) p noStream .group))
+  stored-is : (c : Call) → p ≡ placeOf StreamId (streamOf c) → q ≡ placeOf GroupId (groupOf c (getD (b .streams) p noStream .group))
       → stored (carriedOut c (getD (b .streams) p noStream) (getD (b .groups) q noGroup)) ≡ afterCall b c
   unfolding stored streamOf groupOf groupCarried streamCarried frameCarried carriedOut
   stored-is (group i c M) g h =
@@ -81,7 +82,7 @@ module _ (b : Bridge) (call : Call) (p q s k : ℕ) (e : p ≡ streamPlace s) (e
       ∙ stream-after b i j r u p q g h z refl
   stored-is (frame i n A) g h = frame-after b i n A p q g h (judgedAt i (getD (b .streams) p noStream) (getD (b .groups) q noGroup) n A) refl
 
-  replied : (c : Call) → p ≡ streamPlace (streamOf c) → q ≡ groupPlace (groupOf c (getD (b .streams) p noStream .group))
+  replied : (c : Call) → p ≡ placeOf StreamId (streamOf c) → q ≡ placeOf GroupId (groupOf c (getD (b .streams) p noStream .group))
       → replyOf (carriedOut c (getD (b .streams) p noStream) (getD (b .groups) q noGroup) .answer) ≡ reply b c
   unfolding streamOf groupOf groupCarried streamCarried frameCarried carriedOut
   replied (group i c M) g h = group-replies b i c M q h (groupPlaced i (getD (b .groups) q noGroup) c M) refl
@@ -91,7 +92,7 @@ module _ (b : Bridge) (call : Call) (p q s k : ℕ) (e : p ≡ streamPlace s) (e
 
   pub call-after : record { groups = set (b .groups) q (x .group); streams = set (b .streams) p (x .stream) } ≡ afterCall b call
   unfolding stored
-  call-after = ap stored y ∙ stored-is call (e ∙ ap streamPlace es) (f ∙ ap groupPlace fk)
+  call-after = ap stored y ∙ stored-is call (e ∙ ap (placeOf StreamId) es) (f ∙ ap (placeOf GroupId) fk)
 
   pub call-replies : replyOf (x .answer) ≡ reply b call
-  call-replies = ap (λ (z : Carried). replyOf (z .answer)) y ∙ replied call (e ∙ ap streamPlace es) (f ∙ ap groupPlace fk)
+  call-replies = ap (λ (z : Carried). replyOf (z .answer)) y ∙ replied call (e ∙ ap (placeOf StreamId) es) (f ∙ ap (placeOf GroupId) fk)

@@ -20,13 +20,14 @@ use Rattle.tablefile.specs.declared.Reading.the-variants as reading
 use Rattle.tablefile.proofs.Fields.{mark-width}
 use Rattle.reader.proofs.Marks.{none-left}
 use Rattle.reader.proofs.OneRecord.{Front, empty, cut, strange, whole, front}
-use Rattle.calls.specs.Places.{groupPlace, streamPlace}
+use Rattle.quantity.specs.Ranges.{placeOf}
+use Rattle.quantity.specs.declared.Item.the-variants.{GroupId, StreamId}
 use Rattle.bridge.specs.Calls.{groupCalled, streamCalled}
 use Rattle.bridge.specs.declared.Bridge.{Bridge}
 use Rattle.bridge.specs.declared.BridgeSetUp.{BridgeSetUp}
 use Rattle.calls.specs.declared.SetUp.{SetUp}
 use Rattle.calls.specs.declared.SetUp.the-variants.{Done, Refused}
-use Rattle.calls.proofs.Places.{group-below, stream-below}
+use Rattle.quantity.proofs.Ranges.{place-most}
 use Rattle.yard.specs.declared.End.{End}
 use Rattle.yard.specs.declared.End.the-variants.{NothingLeft, Unreadable, NotSetUp, ListsFull}
 use Rattle.yard.specs.declared.Task.{Task}
@@ -35,11 +36,11 @@ use Rattle.yard.specs.Gathering.{State, Outcome, ended, hasRoom, taskOf,
 
 -- ---- the places that the code finds
 
-pub group-found : (p i : ℕ) → p ≡ groupPlace i → p < 16
-group-found p i e = omega (arith, group-below i)
+pub group-found : (p i : ℕ) → p ≡ placeOf GroupId i → p < 16
+group-found p i e = omega (arith, place-most GroupId i)
 
-pub stream-found : (p i : ℕ) → p ≡ streamPlace i → p < 64
-stream-found p i e = omega (arith, stream-below i)
+pub stream-found : (p i : ℕ) → p ≡ placeOf StreamId i → p < 64
+stream-found p i e = omega (arith, place-most StreamId i)
 
 -- ---- what the code tests
 

@@ -5,16 +5,17 @@ use Prim.Native.Nat.{_<_}
 use native.Mathlib.Omega.{arith}
 use lib.ListN.{getD}
 use Rattle.bridge.specs.Tables.{noStream}
-use Rattle.calls.proofs.Places.{group-below, stream-below}
+use Rattle.quantity.specs.declared.Item.the-variants.{GroupId, StreamId}
+use Rattle.quantity.proofs.Ranges.{place-most}
 use Rattle.bridge.proofs.Tables.{frame-call}
 use Rattle.bridge.proofs.frame.Statement.{statement}
 use Rattle.bridge.proofs.frame.Tie as tie
 
-stream-place-requires : tie.Need-stream-place-requires
-stream-place-requires c κs = search needs
+place-of-requires : tie.Need-place-of-requires
+place-of-requires c κs = search needs
 
-below : (c : tie.After-stream-place) → c .stream-place .result < 64
-below c = omega (arith, c .stream-place .ensures, stream-below (c .before .before .before .args .id))
+below : (c : tie.After-place-of) → c .place-of .result < 64
+below c = omega (arith, c .place-of .ensures, place-most StreamId (c .before .before .before .args .id))
 
 mul-stream : tie.Need-mul-stream
 mul-stream c = omega (arith, below c)
@@ -22,11 +23,11 @@ mul-stream c = omega (arith, below c)
 array-copy-out-stream : tie.Need-array-copy-out-stream
 array-copy-out-stream c = below c
 
-group-place-requires : tie.Need-group-place-requires
-group-place-requires c κs = search needs
+place-of-requires-2 : tie.Need-place-of-requires-2
+place-of-requires-2 c κs = search needs
 
-group-in : (c : tie.After-group-place) → c .group-place .result < 16
-group-in c = omega (arith, c .group-place .ensures, group-below (getD (c .before .before .before .before .before .args .bridge .streams) (c .before .before .stream-place .result) noStream .group))
+group-in : (c : tie.After-place-of2) → c .place-of2 .result < 16
+group-in c = omega (arith, c .place-of2 .ensures, place-most GroupId (getD (c .before .before .before .before .before .args .bridge .streams) (c .before .before .place-of .result) noStream .group))
 
 mul-judge-at : tie.Need-mul-judge-at
 mul-judge-at c = omega (arith, group-in c)
@@ -55,16 +56,16 @@ returns c =
     let q = j .before .before in
     let p = q .before .before in
     let a = p .before .before .before .args in
-    frame-call (a .bridge) (a .id) (a .octets) (a .arrival .0) (p .stream-place .result) (q .group-place .result) (p .stream-place .ensures) (q .group-place .ensures) (j .judge-at .result) (j .judge-at .ensures)
+    frame-call (a .bridge) (a .id) (a .octets) (a .arrival .0) (p .place-of .result) (q .place-of2 .result) (p .place-of .ensures) (q .place-of2 .ensures) (j .judge-at .result) (j .judge-at .ensures)
 
 pub frame-spec : {M : Type 1} → statement M
 frame-spec =
     tie.close
     (tie.spec
-    stream-place-requires
+    place-of-requires
     mul-stream
     array-copy-out-stream
-    group-place-requires
+    place-of-requires-2
     mul-judge-at
     array-copy-out-judge-at
     judge-at-requires

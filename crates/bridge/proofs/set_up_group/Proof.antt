@@ -3,16 +3,17 @@ use borrow.Author.Needs.{needs}
 use mathlib.Core.Path.{_∙_}
 use Prim.Native.Nat.{_<_}
 use native.Mathlib.Omega.{arith}
-use Rattle.calls.proofs.Places.{group-below}
+use Rattle.quantity.specs.declared.Item.the-variants.{GroupId}
+use Rattle.quantity.proofs.Ranges.{place-most}
 use Rattle.bridge.proofs.Tables.{group-call}
 use Rattle.bridge.proofs.set_up_group.Statement.{statement}
 use Rattle.bridge.proofs.set_up_group.Tie as tie
 
-group-place-requires : tie.Need-group-place-requires
-group-place-requires c κs = search needs
+place-of-requires : tie.Need-place-of-requires
+place-of-requires c κs = search needs
 
-below : (c : tie.After-group-place) → c .group-place .result < 16
-below c = omega (arith, c .group-place .ensures, group-below (c .before .before .before .args .id))
+below : (c : tie.After-place-of) → c .place-of .result < 16
+below c = omega (arith, c .place-of .ensures, place-most GroupId (c .before .before .before .args .id))
 
 mul-place-group : tie.Need-mul-place-group
 mul-place-group c = omega (arith, below c)
@@ -34,13 +35,13 @@ returns c =
     let q = c .before in
     let p = q .before .before in
     let a = p .before .before .before .args in
-    group-call (a .bridge) (a .id) (a .class) (a .residence .0) (p .group-place .result) (p .group-place .ensures) (q .place-group .result) (q .place-group .ensures)
+    group-call (a .bridge) (a .id) (a .class) (a .residence .0) (p .place-of .result) (p .place-of .ensures) (q .place-group .result) (q .place-group .ensures)
 
 pub set-up-group-spec : {M : Type 1} → statement M
 set-up-group-spec =
     tie.close
     (tie.spec
-    group-place-requires
+    place-of-requires
     mul-place-group
     array-copy-out-place-group
     place-group-requires

@@ -3,22 +3,23 @@ use borrow.Author.Needs.{needs}
 use mathlib.Core.Path.{_∙_}
 use Prim.Native.Nat.{_<_}
 use native.Mathlib.Omega.{arith}
-use Rattle.calls.proofs.Places.{group-below, stream-below}
+use Rattle.quantity.specs.declared.Item.the-variants.{GroupId, StreamId}
+use Rattle.quantity.proofs.Ranges.{place-most}
 use Rattle.bridge.proofs.Tables.{stream-call}
 use Rattle.bridge.proofs.set_up_stream.Statement.{statement}
 use Rattle.bridge.proofs.set_up_stream.Tie as tie
 
-stream-place-requires : tie.Need-stream-place-requires
-stream-place-requires c κs = search needs
+place-of-requires : tie.Need-place-of-requires
+place-of-requires c κs = search needs
 
-group-place-requires : tie.Need-group-place-requires
-group-place-requires c κs = search needs
+place-of-requires-2 : tie.Need-place-of-requires-2
+place-of-requires-2 c κs = search needs
 
-below : (c : tie.After-stream-place) → c .stream-place .result < 64
-below c = omega (arith, c .stream-place .ensures, stream-below (c .before .before .before .args .id))
+below : (c : tie.After-place-of) → c .place-of .result < 64
+below c = omega (arith, c .place-of .ensures, place-most StreamId (c .before .before .before .args .id))
 
-group-in : (c : tie.After-group-place) → c .group-place .result < 16
-group-in c = omega (arith, c .group-place .ensures, group-below (c .before .before .before .before .args .group))
+group-in : (c : tie.After-place-of2) → c .place-of2 .result < 16
+group-in c = omega (arith, c .place-of2 .ensures, place-most GroupId (c .before .before .before .before .args .group))
 
 mul-place-stream : tie.Need-mul-place-stream
 mul-place-stream c = omega (arith, below (c .before))
@@ -47,14 +48,14 @@ returns c =
     let k = q .before .before .before in
     let p = k .before in
     let a = p .before .before .before .args in
-    stream-call (a .bridge) (a .id) (a .group) (a .rate .0) (a .burst .0) (p .stream-place .result) (k .group-place .result) (p .stream-place .ensures) (k .group-place .ensures) (q .place-stream .result) (q .place-stream .ensures)
+    stream-call (a .bridge) (a .id) (a .group) (a .rate .0) (a .burst .0) (p .place-of .result) (k .place-of2 .result) (p .place-of .ensures) (k .place-of2 .ensures) (q .place-stream .result) (q .place-stream .ensures)
 
 pub set-up-stream-spec : {M : Type 1} → statement M
 set-up-stream-spec =
     tie.close
     (tie.spec
-    stream-place-requires
-    group-place-requires
+    place-of-requires
+    place-of-requires-2
     mul-place-stream
     array-copy-out-place-stream
     mul-place-stream-2

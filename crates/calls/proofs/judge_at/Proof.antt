@@ -2,7 +2,7 @@
 use borrow.Author.Needs.{needs}
 use mathlib.Core.Path.{sym, _∙_}
 use Rattle.quantity.proofs.Booleans.{refuted, confirmed}
-use Rattle.calls.proofs.Places.{frame-id-out, frame-id-in}
+use Rattle.calls.proofs.Returns.{frame-id-out, frame-id-in}
 use Rattle.calls.proofs.judge_at.Statement.{statement}
 use Rattle.calls.proofs.judge_at.Tie as tie
 

@@ -7,7 +7,7 @@ use Rattle.quantity.specs.Ranges.{inRange}
 use Rattle.quantity.specs.declared.Item.the-variants.{GroupId}
 use Rattle.quantity.proofs.Booleans.{refuted, confirmed}
 use Rattle.calls.specs.Calls.{groupTaken}
-use Rattle.calls.proofs.Places.{group-id-out, group-before, group-taken}
+use Rattle.calls.proofs.Returns.{group-id-out, group-before, group-taken}
 use Rattle.calls.proofs.place_group.Statement.{statement}
 use Rattle.calls.proofs.place_group.Tie as tie
 

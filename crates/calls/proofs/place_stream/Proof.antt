@@ -7,7 +7,7 @@ use Rattle.quantity.specs.declared.Item.the-variants.{StreamId}
 use Rattle.quantity.proofs.Booleans.{refuted, confirmed}
 use Rattle.records.specs.Numbers.{isSetUp}
 use Rattle.calls.specs.Calls.{streamTaken}
-use Rattle.calls.proofs.Places.{stream-id-out, stream-before, stream-taken}
+use Rattle.calls.proofs.Returns.{stream-id-out, stream-before, stream-taken}
 use Rattle.calls.proofs.place_stream.Statement.{statement}
 use Rattle.calls.proofs.place_stream.Tie as tie
 

@@ -74,14 +74,14 @@ arrival-found c =
 shared-slice-read-id : tie.Need-shared-slice-read-id Inv-loop μ-loop
 shared-slice-read-id c = omega (arith, (arrival-found (c .before)) .1, c .before .before .before .before .before .before .loop .inv .ids)
 
-stream-place-requires : tie.Need-stream-place-requires Inv-loop μ-loop
-stream-place-requires c κs = search needs
+place-of-requires : tie.Need-place-of-requires Inv-loop μ-loop
+place-of-requires c κs = search needs
 
-at-stream : (c : tie.After-stream-place Inv-loop μ-loop) → c .stream-place .result < 64
-at-stream c = stream-found _ _ (c .stream-place .ensures)
+at-stream : (c : tie.After-place-of Inv-loop μ-loop) → c .place-of .result < 64
+at-stream c = stream-found _ _ (c .place-of .ensures)
 
-of-group : (c : tie.After-group-place Inv-loop μ-loop) → c .group-place .result < 16
-of-group c = group-found _ _ (c .group-place .ensures)
+of-group : (c : tie.After-place-of2 Inv-loop μ-loop) → c .place-of2 .result < 16
+of-group c = group-found _ _ (c .place-of2 .ensures)
 
 mul-stream : tie.Need-mul-stream Inv-loop μ-loop
 mul-stream c = omega (arith, at-stream c)
@@ -89,8 +89,8 @@ mul-stream c = omega (arith, at-stream c)
 array-copy-out-stream : tie.Need-array-copy-out-stream Inv-loop μ-loop
 array-copy-out-stream c = at-stream c
 
-group-place-requires : tie.Need-group-place-requires Inv-loop μ-loop
-group-place-requires c κs = search needs
+place-of-requires-2 : tie.Need-place-of-requires-2 Inv-loop μ-loop
+place-of-requires-2 c κs = search needs
 
 mul-group : tie.Need-mul-group Inv-loop μ-loop
 mul-group c = omega (arith, of-group c)
@@ -135,7 +135,7 @@ settle-requires c κs =
     let s = g .before .before in
     let e = s .before .before in
     let n = e .before .before in
-    (n .before .before .before .loop .inv .keeps, may-settle _ _ _ _ _ _ (n .before .before .before .loop .inv) _ (n .before .soonest .ensures) _ (n .next-step .ensures) (e .enum-told .given .1) _ _ (s .stream-place .ensures) (g .group-place .ensures) _ (j .judge-at .ensures))
+    (n .before .before .before .loop .inv .keeps, may-settle _ _ _ _ _ _ (n .before .before .before .loop .inv) _ (n .before .soonest .ensures) _ (n .next-step .ensures) (e .enum-told .given .1) _ _ (s .place-of .ensures) (g .place-of2 .ensures) _ (j .judge-at .ensures))
 
 slice-write-answers : tie.Need-slice-write-answers Inv-loop μ-loop
 slice-write-answers c = omega (arith, (arrival-found (c .before .before .before .before .before .before .before .before .before .before .before .before .before .before .before .before .before)) .1, c .before .before .before .before .before .before .before .before .before .before .before .before .before .before .before .before .before .before .before .before .before .before .loop .inv .room)
@@ -156,7 +156,7 @@ loop-again c =
     let s = g .before .before in
     let e = s .before .before in
     let n = e .before .before in
-    turn-arrives _ _ _ _ _ _ (n .before .before .before .loop .inv) _ (n .before .soonest .ensures) _ (n .next-step .ensures) (e .enum-told .given .1) _ _ (s .stream-place .ensures) (g .group-place .ensures) _ (j .judge-at .ensures) _ _ (c .settle .ensures .0) _ _ (c .settle .ensures .1)
+    turn-arrives _ _ _ _ _ _ (n .before .before .before .loop .inv) _ (n .before .soonest .ensures) _ (n .next-step .ensures) (e .enum-told .given .1) _ _ (s .place-of .ensures) (g .place-of2 .ensures) _ (j .judge-at .ensures) _ _ (c .settle .ensures .0) _ _ (c .settle .ensures .1)
 
 enum-known-step-2 : tie.Need-enum-known-step-2 Inv-loop μ-loop
 enum-known-step-2 c = search needs
@@ -224,10 +224,10 @@ run-events-spec =
     returns
     enum-told
     shared-slice-read-id
-    stream-place-requires
+    place-of-requires
     mul-stream
     array-copy-out-stream
-    group-place-requires
+    place-of-requires-2
     mul-group
     array-copy-out-group
     mul-length

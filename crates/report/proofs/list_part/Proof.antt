@@ -4,7 +4,7 @@ use mathlib.Core.Path.{_≡_, refl, sym, _∙_}
 use Prim.Native.Nat.{ℕ, _+_, _-_, _≤_, _<_}
 use native.Mathlib.Omega.{arith}
 use lib.ListN.{length}
-use Rattle.calls.proofs.Places.{group-below, stream-below}
+use Rattle.quantity.proofs.Ranges.{place-most}
 use Rattle.report.proofs.Stepping.{Going, going}
 use Rattle.report.proofs.Calls.{call-after, call-replies}
 use Rattle.report.proofs.Underway.{Underway, starts, stops, goes-further, turns}
@@ -62,10 +62,10 @@ further : (c : tie.After-step2 Inv-loop μ-loop) → let l = c .before .before .
 further c = let n = c .before .before in goes-further _ _ _ _ _ _ _ _ _ (n .before .before .loop .inv) _ (n .before .read .ensures) _ _ (goes c)
 
 stream-in : (c : tie.After-stream-place Inv-loop μ-loop) → c .stream-place .result < 64
-stream-in c = omega (arith, c .stream-place .ensures, stream-below (c .before .stream-of .result))
+stream-in c = omega (arith, c .stream-place .ensures, place-most StreamId (c .before .stream-of .result))
 
 group-in : (c : tie.After-group-place Inv-loop μ-loop) → c .group-place .result < 16
-group-in c = omega (arith, c .group-place .ensures, group-below (c .before .group-of .result))
+group-in c = omega (arith, c .group-place .ensures, place-most GroupId (c .before .group-of .result))
 
 mul-stream : tie.Need-mul-stream Inv-loop μ-loop
 mul-stream c = omega (arith, stream-in c)
