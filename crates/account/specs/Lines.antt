@@ -1,13 +1,14 @@
 -- The lines of a replay, character by character: document 01's numbers, in decimal, between words.
 -- A line is its parts one after the other; its numbers are separated by single spaces, and a line end stands at its end.
-use Prim.Native.Nat.{ℕ}
+use Prim.Native.Nat.{ℕ, _+_}
+use mathlib.Core.Bool.{cond}
 use mathlib.Core.List.{List, [], _∷_, _++_}
+use lib.Dec.{leb}
+use lib.ListN.{length}
 use Rattle.text.specs.Decimal.{decimal}
-
--- the parts of a line, one after the other
-unfoldable pub joined : List (List ℕ) → List ℕ
-joined [] = []
-joined (part ∷ parts) = part ++ joined parts
+use Rattle.text.specs.Places.{Placed, placed}
+use Rattle.account.specs.declared.Line.{Line}
+use Rattle.account.specs.declared.Line.the-variants.{Answer, Pick, Refused, Stop}
 
 -- ---- the words, with the spaces around them
 
@@ -45,31 +46,38 @@ eventsWord = 32 ∷ 101 ∷ 118 ∷ 101 ∷ 110 ∷ 116 ∷ 115 ∷ 32 ∷ []
 abbrev pub picksWord : List ℕ
 picksWord = 32 ∷ 112 ∷ 105 ∷ 99 ∷ 107 ∷ 115 ∷ 32 ∷ []
 
--- ---- the lines
+-- ---- the parts of each line
 
--- the answer to the frame at a place of the lists
-unfoldable pub frameLine : ℕ → ℕ → List ℕ
-frameLine place number = joined (decimal place ∷ space ∷ decimal number ∷ lineEnd ∷ [])
-
--- the frame of a handle is picked at a moment
-unfoldable pub pickLine : ℕ → ℕ → List ℕ
-pickLine handle moment = joined (pickWord ∷ decimal handle ∷ space ∷ decimal moment ∷ lineEnd ∷ [])
-
--- the run itself is refused
-unfoldable pub refusedLine : ℕ → List ℕ
-refusedLine number = joined (refusedWord ∷ decimal number ∷ lineEnd ∷ [])
+-- two numbers: a place of the lists and the answer to the frame there, or the handle of a frame and the moment of its pick
+abbrev pub pair : ℕ → ℕ → List (List ℕ)
+pair a b = decimal a ∷ space ∷ decimal b ∷ lineEnd ∷ []
 
 -- the run's stop, the next arrival's place, line-free, and the counts of events and of picks
-unfoldable pub stopLine : ℕ → ℕ → ℕ → ℕ → ℕ → List ℕ
-stopLine number next free events picks =
-    joined (stopWord ∷ decimal number ∷ nextWord ∷ decimal next ∷ freeWord ∷ decimal free ∷ eventsWord ∷ decimal events ∷ picksWord ∷ decimal picks ∷ lineEnd ∷ [])
+abbrev pub stop : ℕ → ℕ → ℕ → ℕ → ℕ → List (List ℕ)
+stop number next free events picks =
+    stopWord ∷ decimal number ∷ nextWord ∷ decimal next ∷ freeWord ∷ decimal free ∷ eventsWord ∷ decimal events ∷ picksWord ∷ decimal picks ∷ lineEnd ∷ []
 
--- ---- parts that the code puts together
+-- the answer to a frame, a pick, a run that is refused, a run's stop
+abbrev pub partsOf : Line → List (List ℕ)
+partsOf (Answer place number) = pair place number
+partsOf (Pick handle moment) = pickWord ∷ pair handle moment
+partsOf (Refused number) = refusedWord ∷ decimal number ∷ lineEnd ∷ []
+partsOf (Stop number next free events picks) = stop number next free events picks
 
--- a word and two numbers: the answer to a frame is one with no word, a pick one with its own
-unfoldable pub pairLine : List ℕ → ℕ → ℕ → List ℕ
-pairLine word a b = joined (word ∷ decimal a ∷ space ∷ decimal b ∷ lineEnd ∷ [])
+-- ---- the lines
 
--- the end of the line of a stop, text by text
-abbrev pub countsTexts : ℕ → ℕ → ℕ → List (List ℕ)
-countsTexts free events picks = freeWord ∷ decimal free ∷ eventsWord ∷ decimal events ∷ picksWord ∷ decimal picks ∷ lineEnd ∷ []
+-- parts, one after the other
+unfoldable pub joined : List (List ℕ) → List ℕ
+joined [] = []
+joined (part ∷ parts) = part ++ joined parts
+
+unfoldable pub textOf : Line → List ℕ
+textOf line = joined (partsOf line)
+
+-- the length of the longest line: a stop's, with as many digits as its numbers can have
+abbrev pub lineRoom : ℕ
+lineRoom = 116
+
+-- A line is put at a place of lent bytes where the longest line would have room; else nothing changes.
+unfoldable pub linePut : List ℕ → ℕ → Line → Placed
+linePut bytes at line = cond (leb (at + lineRoom) (length bytes)) (placed bytes at (textOf line)) (record { next = at; bytes = bytes })

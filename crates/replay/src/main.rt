@@ -2,11 +2,13 @@
 // frames against a line of the rate that the first argument gives, free from the moment that the second gives (0 where
 // there is none), and prints each frame's answer, each pick and how the run stopped. Thin: the work is in `yard`,
 // `line` and `account`.
+use account::Line;
 use bridge::Bridge;
 use event::Stop;
 use libc::STDERR_FILENO;
 use libc::STDIN_FILENO;
 use libc::STDOUT_FILENO;
+use line::Ran;
 use quantity::Rate;
 use quantity::Refusal;
 use quantity::Ticks;
@@ -27,9 +29,6 @@ const EVENT_BUDGET: u64 = 2 * quantity::MOST_LIST_PLACES;
 // An argument is shorter: Linux takes none that is longer.
 const ARGUMENT_BYTES: usize = 131_072;
 
-// No line of the output is longer.
-const LONGEST_LINE: usize = 160;
-
 // What the reading does after a part.
 enum Next {
     // It needs more input.
@@ -40,17 +39,20 @@ enum Next {
     GiveUp,
 }
 
-// A table file as far as it was read.
-struct Table {
-    bridge: Bridge,
-    // How many arrivals stand in the lists, and how many records there were.
-    count: usize,
-    records: u64,
-    // What is still to be gathered stands in the buffer from the one place up to the other.
+// What the buffer holds of the table file.
+struct Held {
+    // What is still to be gathered stands from the one place up to the other.
     from: usize,
     have: usize,
     ended: bool,
     // It ended after a whole record. Else nothing is run.
+    whole: bool,
+}
+
+// What a table file sets up, how many arrivals stand in the lists, and whether the whole of it could be read.
+struct Table {
+    bridge: Bridge,
+    count: usize,
     whole: bool,
 }
 
@@ -151,40 +153,31 @@ fn move_to_front(buf: &mut [u8], from: usize, end: usize)
     }
 }
 
-// What the buffer holds after a reading: so many bytes, and whether the reading failed.
-struct Held {
+// How far the buffer is filled after a reading, and whether the reading failed.
+struct Filled {
     have: usize,
     failed: bool,
 }
 
 // Reads once, after the bytes that are there.
-fn read_more(buf: &mut [u8], have: usize) -> Held
+fn read_more(buf: &mut [u8], have: usize) -> Filled
     requires { ⌜ have ≤ length (now buf) ⌝ }
     ensures { λ r. ⌜ r .have ≤ length (now (buf .exit)) ⌝ }
 {
     let got = libc::read(STDIN_FILENO, &mut buf[have..]);
-    if got < 0 {
-        os::fail(b"standard input");
-        return Held { have, failed: true };
-    }
-    Held {
+    Filled {
         have: have + io::count(got, &buf[have..]),
-        failed: false,
+        failed: got < 0,
     }
-}
-
-// Moves what is left to the front and reads on behind it.
-fn refill(buf: &mut [u8], from: usize, have: usize) -> Held
-    requires { ⌜ (from ≤ have) × (have ≤ length (now buf)) ⌝ }
-    ensures { λ r. ⌜ r .have ≤ length (now (buf .exit)) ⌝ }
-{
-    move_to_front(buf, from, have);
-    read_more(buf, have - from)
 }
 
 // Whether the input has ended after a whole record. What is left of it at its end is one that is cut short.
-fn ends_whole(held: Held, left: usize, records: u64) -> bool {
-    if held.failed || held.have > left {
+fn ends_whole(filled: Filled, left: usize, records: u64) -> bool {
+    if filled.failed {
+        os::fail(b"standard input");
+        return false;
+    }
+    if filled.have > left {
         return false;
     }
     if left > 0 {
@@ -194,78 +187,42 @@ fn ends_whole(held: Held, left: usize, records: u64) -> bool {
     true
 }
 
-// Reads on behind what is left. The reading ends where no more came, as where it failed.
-fn read_on(
-    buf: &mut [u8],
-    bridge: Bridge,
-    count: usize,
-    records: u64,
-    from: usize,
-    have: usize,
-) -> Table
+// Moves what is left to the front and reads on behind it. The reading ends where no more came, as where it failed.
+fn read_on(buf: &mut [u8], records: u64, from: usize, have: usize) -> Held
     requires { ⌜ (from ≤ have) × (have ≤ length (now buf)) ⌝ }
     ensures { λ r. ⌜ (r .from ≤ r .have) × (r .have ≤ length (now (buf .exit))) ⌝ }
 {
+    move_to_front(buf, from, have);
     let left = have - from;
-    let held = refill(buf, from, have);
-    Table {
-        bridge,
-        count,
-        records,
+    let filled = read_more(buf, left);
+    Held {
         from: 0,
-        have: held.have,
-        ended: held.have <= left,
-        whole: ends_whole(held, left, records),
+        have: filled.have,
+        ended: filled.have <= left,
+        whole: ends_whole(filled, left, records),
     }
 }
 
 // Goes on from the end of a part.
-fn go_on(buf: &mut [u8], part: Gathered, records: u64, from: usize, have: usize) -> Table
+fn go_on(buf: &mut [u8], why: End, records: u64, from: usize, have: usize) -> Held
     requires { ⌜ (from ≤ have) × (have ≤ length (now buf)) ⌝ }
     ensures { λ r. ⌜ (r .from ≤ r .have) × (r .have ≤ length (now (buf .exit))) ⌝ }
 {
-    let why = part.why;
-    let bridge = part.bridge;
-    let count = part.count;
-    let next = after_part(why, records);
-    if let Next::Refill = next {
-        return read_on(buf, bridge, count, records, from, have);
+    match after_part(why, records) {
+        Next::Refill => read_on(buf, records, from, have),
+        Next::GoOn => Held {
+            from,
+            have,
+            ended: false,
+            whole: false,
+        },
+        Next::GiveUp => Held {
+            from,
+            have,
+            ended: true,
+            whole: false,
+        },
     }
-    Table {
-        bridge,
-        count,
-        records,
-        from,
-        have,
-        ended: is_given_up(next),
-        whole: false,
-    }
-}
-
-fn is_given_up(next: Next) -> bool {
-    match next {
-        Next::GiveUp => true,
-        _ => false,
-    }
-}
-
-// Gathers the part that the buffer holds, and goes on from its end.
-fn turn(
-    buf: &mut [u8],
-    arrivals: &mut [u64],
-    ids: &mut [u8],
-    octets: &mut [u16],
-    table: Table,
-) -> Table
-    requires { ⌜ (table .from ≤ table .have) × (table .have ≤ length (now buf)) ⌝ }
-    ensures { λ r. ⌜ (r .from ≤ r .have) × (r .have ≤ length (now (buf .exit))) ⌝ }
-{
-    let from = table.from;
-    let have = table.have;
-    let before = table.bridge;
-    let part = yard::gather_part(&buf[from..have], before, arrivals, ids, octets, table.count);
-    let records = std::num::wrapping_add_u64(table.records, part.records as u64);
-    go_on(buf, part, records, from + part.at, have)
 }
 
 // The turns that are left after one of them: none where the reading has ended.
@@ -276,24 +233,40 @@ fn turns_after(turns: u64, ended: bool) -> u64
     if ended { 0 } else { turns - 1 }
 }
 
-// Reads the whole of standard input. A proved loop has to end, and nothing says that a file does: it counts its turns,
-// from a number that no run uses up.
+// Reads the whole of standard input, a part at a time. A proved loop has to end, and nothing says that a file does: it
+// counts its turns, from a number that no run uses up.
 fn read_table(buf: &mut [u8], arrivals: &mut [u64], ids: &mut [u8], octets: &mut [u16]) -> Table {
-    let mut table = Table {
-        bridge: bridge::fresh(),
-        count: 0,
+    let mut part = Gathered {
+        why: End::NothingLeft,
+        at: 0,
         records: 0,
+        count: 0,
+        bridge: bridge::fresh(),
+    };
+    let mut held = Held {
         from: 0,
         have: 0,
         ended: false,
         whole: false,
     };
+    let mut records = 0;
     let mut turns = u64::MAX;
     while turns > 0 {
-        table = turn(buf, arrivals, ids, octets, table);
-        turns = turns_after(turns, table.ended);
+        let before = part.bridge;
+        let from = held.from;
+        let have = held.have;
+        part = yard::gather_part(&buf[from..have], before, arrivals, ids, octets, part.count);
+        let why = part.why;
+        records = std::num::wrapping_add_u64(records, part.records as u64);
+        held = go_on(buf, why, records, from + part.at, have);
+        turns = turns_after(turns, held.ended);
     }
-    table
+    let bridge = part.bridge;
+    Table {
+        bridge,
+        count: part.count,
+        whole: held.whole,
+    }
 }
 
 // ---- standard output
@@ -311,11 +284,19 @@ fn next_line(out: &[u8], at: usize) -> usize
     requires { ⌜ Counts at (now out) ⌝ }
     ensures { λ r. ⌜ r ≤ length (now (out .entry)) ⌝ }
 {
-    if out.len() - at < LONGEST_LINE {
+    if out.len() - at < account::LINE_ROOM {
         flush(out, at);
         return 0;
     }
     at
+}
+
+fn print_line(out: &mut [u8], at: usize, line: Line) -> usize
+    requires { ⌜ Counts at (now out) ⌝ }
+    ensures { λ r. ⌜ Counts r (now (out .exit)) ⌝ }
+{
+    let start = next_line(out, at);
+    account::put_line(out, start, line)
 }
 
 fn smaller(a: usize, b: usize) -> usize
@@ -326,15 +307,18 @@ fn smaller(a: usize, b: usize) -> usize
 
 // The answers to the first frames, so many of them.
 fn print_answers(out: &mut [u8], at: usize, answers: &[u8], frames: usize) -> usize
-    requires { ⌜ at ≤ length (now out) ⌝ }
+    requires { ⌜ Counts at (now out) ⌝ }
     ensures { λ r. ⌜ Counts r (now (out .exit)) ⌝ }
 {
     let many = smaller(frames, answers.len());
     let mut end = at;
     let mut k = 0;
     while k < many {
-        end = next_line(out, end);
-        end = account::put_frame_line(out, end, k as u64, answers[k]);
+        let answer = Line::Answer {
+            place: k as u64,
+            number: answers[k],
+        };
+        end = print_line(out, end, answer);
         k += 1;
     }
     end
@@ -342,50 +326,45 @@ fn print_answers(out: &mut [u8], at: usize, answers: &[u8], frames: usize) -> us
 
 // The first picks, so many of them.
 fn print_picks(out: &mut [u8], at: usize, picked: &[u32], moments: &[u64], picks: usize) -> usize
-    requires { ⌜ at ≤ length (now out) ⌝ }
+    requires { ⌜ Counts at (now out) ⌝ }
     ensures { λ r. ⌜ Counts r (now (out .exit)) ⌝ }
 {
     let many = smaller(smaller(picks, picked.len()), moments.len());
     let mut end = at;
     let mut k = 0;
     while k < many {
-        end = next_line(out, end);
-        end = account::put_pick_line(out, end, picked[k], moments[k]);
+        let pick = Line::Pick {
+            handle: picked[k],
+            moment: moments[k],
+        };
+        end = print_line(out, end, pick);
         k += 1;
     }
     end
 }
 
-// The lines of a run that was not refused.
-fn print_run(
-    answers: &[u8],
-    picked: &[u32],
-    moments: &[u64],
-    number: u8,
-    next: usize,
-    free: u64,
-    events: u64,
-    picks: usize,
-) {
-    let mut out = io::large_buffer();
-    let after_answers = print_answers(&mut out, 0, answers, next);
-    let after_picks = print_picks(&mut out, after_answers, picked, moments, picks);
-    let at = next_line(&out, after_picks);
-    let end = account::put_stop_line(
-        &mut out,
-        at,
+// How the run stopped.
+fn last_line(ran: Ran) -> Line {
+    let stop = ran.stop;
+    let number = event::stop_number(stop);
+    if let Stop::Refused(_) = stop {
+        return Line::Refused(number);
+    }
+    Line::Stop {
         number,
-        next as u64,
-        free,
-        events,
-        picks as u64,
-    );
-    flush(&out, end);
+        next: ran.next as u64,
+        free: ran.free.0,
+        events: ran.events,
+        picks: ran.picks as u64,
+    }
 }
 
-fn print_refused(number: u8) {
-    let mut out = io::buffer();
-    let end = account::put_refused_line(&mut out, 0, number);
+// The lines of a run. One that is refused has answered no frame and picked none.
+fn print_run(ran: Ran, answers: &[u8], picked: &[u32], moments: &[u64]) {
+    let mut out = io::large_buffer();
+    let after_answers = print_answers(&mut out, 0, answers, ran.next);
+    let after_picks = print_picks(&mut out, after_answers, picked, moments, ran.picks);
+    let end = print_line(&mut out, after_picks, last_line(ran));
     flush(&out, end);
 }
 
@@ -417,38 +396,7 @@ fn run_lists(
         &mut picked,
         &mut moments,
     );
-    let stop = ran.stop;
-    let number = event::stop_number(stop);
-    if let Stop::Refused(_) = stop {
-        print_refused(number);
-        return;
-    }
-    print_run(
-        &answers,
-        &picked,
-        &moments,
-        number,
-        ran.next,
-        ran.free.0,
-        ran.events,
-        ran.picks,
-    );
-}
-
-// Runs the first arrivals of the lists, as many as the table has.
-fn run_table(table: Table, arrivals: &[u64], ids: &[u8], octets: &[u16], rate: Rate, free: Ticks) {
-    let count = smaller(
-        smaller(table.count, arrivals.len()),
-        smaller(ids.len(), octets.len()),
-    );
-    run_lists(
-        table.bridge,
-        &arrivals[..count],
-        &ids[..count],
-        &octets[..count],
-        rate,
-        free,
-    );
+    print_run(ran, &answers, &picked, &moments);
 }
 
 // Reads the table file and, where the whole of it could be read, runs it.
@@ -459,7 +407,16 @@ fn replay(rate: Rate, free: Ticks) {
     let mut buf = io::large_buffer();
     let table = read_table(&mut buf, &mut arrivals, &mut ids, &mut octets);
     if table.whole {
-        run_table(table, &arrivals, &ids, &octets, rate, free);
+        let bridge = table.bridge;
+        let count = smaller(table.count, PLACES);
+        run_lists(
+            bridge,
+            &arrivals[..count],
+            &ids[..count],
+            &octets[..count],
+            rate,
+            free,
+        );
     }
 }
 

@@ -1,6 +1,9 @@
 -- `account::put_field` meets its contract. Assumes nothing.
 use borrow.Author.Needs.{needs}
-use Rattle.account.proofs.Texts.{field-put}
+use mathlib.Core.Path.{_∙_}
+use mathlib.Core.List.{[], _∷_}
+use Rattle.account.specs.Puts.{puts}
+use Rattle.account.proofs.Texts.{and-then}
 use Rattle.account.proofs.put_field.Statement.{statement}
 use Rattle.account.proofs.put_field.Tie as tie
 
@@ -14,7 +17,11 @@ same-length : tie.Need-same-length
 same-length c = search needs
 
 returns : tie.Need-returns
-returns c = let d = c .before .before in let t = d .before .before .before .before in field-put _ _ _ _ _ _ _ (t .put-text .ensures) (d .put-decimal .ensures)
+unfolding puts
+returns c =
+    let d = c .before .before in
+    let t = d .before .before .before .before in
+    d .put-decimal .ensures ∙ and-then (_ ∷ []) (_ ∷ []) _ _ _ _ (t .put-text .ensures)
 
 pub put-field-spec : {M : Type 1} → statement M
 put-field-spec = tie.close (tie.spec put-text-requires put-decimal-requires same-length returns)

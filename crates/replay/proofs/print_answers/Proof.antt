@@ -4,12 +4,12 @@ use mathlib.Core.Path.{_≡_, refl}
 use Prim.Native.Nat.{ℕ, _-_, _≤_}
 use native.Mathlib.Omega.{arith}
 use lib.ListN.{length}
-use Rattle.replay.proofs.Buffers.{counts, Within, begins, goes-on}
+use Rattle.io.specs.Counts.{Counts}
 use Rattle.replay.proofs.print_answers.Statement.{statement}
 use Rattle.replay.proofs.print_answers.Tie as tie
 
 abbrev Inv-loop : tie.InvT-loop
-Inv-loop out₀ at answers frames many end₀ k₀ out end k = (k ≤ many) × Within out₀ out end
+Inv-loop out₀ at answers frames many end₀ k₀ out end k = (k ≤ many) × (Counts end out × (length out ≡ length out₀))
 
 abbrev μ-loop : tie.MeasureT-loop
 μ-loop out₀ at answers frames many end₀ k₀ out end k = many - k
@@ -18,16 +18,13 @@ smaller-requires : tie.Need-smaller-requires Inv-loop μ-loop
 smaller-requires c κs = search needs
 
 loop-holds : tie.Need-loop-holds Inv-loop μ-loop
-loop-holds c = (omega arith, begins _ _ (omega arith))
+loop-holds c = (omega arith, (search needs, refl))
 
-next-line-requires : tie.Need-next-line-requires Inv-loop μ-loop
-next-line-requires c κs = counts _ _ (c .before .before .loop .inv .1 .inside)
+shared-slice-read-t13 : tie.Need-shared-slice-read-t13 Inv-loop μ-loop
+shared-slice-read-t13 c = omega arith
 
-shared-slice-read-put-frame-line : tie.Need-shared-slice-read-put-frame-line Inv-loop μ-loop
-shared-slice-read-put-frame-line c = omega arith
-
-put-frame-line-requires : tie.Need-put-frame-line-requires Inv-loop μ-loop
-put-frame-line-requires c κs = search needs
+print-line-requires : tie.Need-print-line-requires Inv-loop μ-loop
+print-line-requires c κs = search needs
 
 add-k : tie.Need-add-k Inv-loop μ-loop
 add-k c = omega arith
@@ -36,17 +33,13 @@ loop-less : tie.Need-loop-less Inv-loop μ-loop
 loop-less c = omega arith
 
 loop-again : tie.Need-loop-again Inv-loop μ-loop
-loop-again c =
-    let p = c .before .before in
-    let n = p .before .before .before in
-    let l = n .before .before .before .loop in
-    (omega arith, goes-on (l .inv .1) _ (n .next-line .ensures) _ _ _ (p .put-frame-line .ensures))
+loop-again c = (omega arith, (search needs, search needs))
 
 same-length : tie.Need-same-length Inv-loop μ-loop
-same-length c = c .before .loop .inv .1 .long
+same-length c = c .before .loop .inv .1 .1
 
 returns : tie.Need-returns Inv-loop μ-loop
-returns c = counts _ _ (c .before .loop .inv .1 .inside)
+returns c = c .before .loop .inv .1 .0
 
 pub print-answers-spec : {M : Type 1} → statement M
 print-answers-spec =
@@ -56,9 +49,8 @@ print-answers-spec =
     μ-loop
     smaller-requires
     loop-holds
-    next-line-requires
-    shared-slice-read-put-frame-line
-    put-frame-line-requires
+    shared-slice-read-t13
+    print-line-requires
     add-k
     loop-less
     loop-again

@@ -4,12 +4,12 @@ use mathlib.Core.Path.{_≡_, refl}
 use Prim.Native.Nat.{ℕ, _-_, _≤_}
 use native.Mathlib.Omega.{arith}
 use lib.ListN.{length}
-use Rattle.replay.proofs.Buffers.{counts, Within, begins, goes-on}
+use Rattle.io.specs.Counts.{Counts}
 use Rattle.replay.proofs.print_picks.Statement.{statement}
 use Rattle.replay.proofs.print_picks.Tie as tie
 
 abbrev Inv-loop : tie.InvT-loop
-Inv-loop out₀ at picked moments picks many end₀ k₀ out end k = (k ≤ many) × Within out₀ out end
+Inv-loop out₀ at picked moments picks many end₀ k₀ out end k = (k ≤ many) × (Counts end out × (length out ≡ length out₀))
 
 abbrev μ-loop : tie.MeasureT-loop
 μ-loop out₀ at picked moments picks many end₀ k₀ out end k = many - k
@@ -21,25 +21,22 @@ smaller-requires-2 : tie.Need-smaller-requires-2 Inv-loop μ-loop
 smaller-requires-2 c κs = search needs
 
 loop-holds : tie.Need-loop-holds Inv-loop μ-loop
-loop-holds c = (omega arith, begins _ _ (omega arith))
+loop-holds c = (omega arith, (search needs, refl))
 
-next-line-requires : tie.Need-next-line-requires Inv-loop μ-loop
-next-line-requires c κs = counts _ _ (c .before .before .loop .inv .1 .inside)
+mul-t14 : tie.Need-mul-t14 Inv-loop μ-loop
+mul-t14 c = omega arith
 
-mul-put-pick-line : tie.Need-mul-put-pick-line Inv-loop μ-loop
-mul-put-pick-line c = omega arith
+shared-slice-read-t16 : tie.Need-shared-slice-read-t16 Inv-loop μ-loop
+shared-slice-read-t16 c = omega arith
 
-shared-slice-read-put-pick-line : tie.Need-shared-slice-read-put-pick-line Inv-loop μ-loop
-shared-slice-read-put-pick-line c = omega arith
+mul-t17 : tie.Need-mul-t17 Inv-loop μ-loop
+mul-t17 c = omega arith
 
-mul-put-pick-line-2 : tie.Need-mul-put-pick-line-2 Inv-loop μ-loop
-mul-put-pick-line-2 c = omega arith
+shared-slice-read-t19 : tie.Need-shared-slice-read-t19 Inv-loop μ-loop
+shared-slice-read-t19 c = omega arith
 
-shared-slice-read-put-pick-line-2 : tie.Need-shared-slice-read-put-pick-line-2 Inv-loop μ-loop
-shared-slice-read-put-pick-line-2 c = omega arith
-
-put-pick-line-requires : tie.Need-put-pick-line-requires Inv-loop μ-loop
-put-pick-line-requires c κs = search needs
+print-line-requires : tie.Need-print-line-requires Inv-loop μ-loop
+print-line-requires c κs = search needs
 
 add-k : tie.Need-add-k Inv-loop μ-loop
 add-k c = omega arith
@@ -48,17 +45,13 @@ loop-less : tie.Need-loop-less Inv-loop μ-loop
 loop-less c = omega arith
 
 loop-again : tie.Need-loop-again Inv-loop μ-loop
-loop-again c =
-    let p = c .before .before in
-    let n = p .before .before .before .before in
-    let l = n .before .before .before .loop in
-    (omega arith, goes-on (l .inv .1) _ (n .next-line .ensures) _ _ _ (p .put-pick-line .ensures))
+loop-again c = (omega arith, (search needs, search needs))
 
 same-length : tie.Need-same-length Inv-loop μ-loop
-same-length c = c .before .loop .inv .1 .long
+same-length c = c .before .loop .inv .1 .1
 
 returns : tie.Need-returns Inv-loop μ-loop
-returns c = counts _ _ (c .before .loop .inv .1 .inside)
+returns c = c .before .loop .inv .1 .0
 
 pub print-picks-spec : {M : Type 1} → statement M
 print-picks-spec =
@@ -69,12 +62,11 @@ print-picks-spec =
     smaller-requires
     smaller-requires-2
     loop-holds
-    next-line-requires
-    mul-put-pick-line
-    shared-slice-read-put-pick-line
-    mul-put-pick-line-2
-    shared-slice-read-put-pick-line-2
-    put-pick-line-requires
+    mul-t14
+    shared-slice-read-t16
+    mul-t17
+    shared-slice-read-t19
+    print-line-requires
     add-k
     loop-less
     loop-again
