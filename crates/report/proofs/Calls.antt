@@ -1,7 +1,8 @@
 -- Laws of the calls that records stand for: the records that the code stored and the answer that it shows are those of the call on the tables. Assumes nothing.
 use mathlib.Core.Path.{_≡_, refl, ap, _∙_}
 use mathlib.Core.List.{List, []}
-use Prim.Native.Nat.{ℕ}
+use Prim.Native.Nat.{ℕ, _<_}
+use native.Mathlib.Omega.{arith}
 use lib.ListN.{getD, set}
 use lib.Seq.{set-getD}
 use Rattle.records.specs.Numbers.{answerNumber, answerValues}
@@ -15,14 +16,19 @@ use Rattle.quantity.specs.Ranges.{placeOf}
 use Rattle.quantity.specs.declared.Item.the-variants.{GroupId, StreamId}
 use Rattle.calls.specs.Calls.{groupPlaced, streamPlaced, judgedAt}
 use Rattle.calls.specs.Numbers.{setUpNumber}
+use Rattle.bridge.specs.Calls.{groupCalled, streamCalled, frameCalled}
 use Rattle.bridge.specs.History.{Call, group, stream, frame, Reply, reply, afterCall}
 use Rattle.bridge.specs.declared.Bridge.{Bridge}
+use Rattle.calls.specs.declared.SetUp.{SetUp}
+use Rattle.calls.specs.declared.SetUp.the-variants as set-up
 use Rattle.calls.specs.declared.PlacedGroup.{PlacedGroup}
 use Rattle.calls.specs.declared.PlacedStream.{PlacedStream}
 use Rattle.bridge.specs.declared.BridgeSetUp.{BridgeSetUp}
 use Rattle.bridge.specs.declared.Framed.{Framed}
 use Rattle.bridge.proofs.Tables.{group-call, stream-call, frame-call}
-use Rattle.report.specs.Steps.{valuesOf, replyOf, setUpAnswer, shownOf, frameAnswer, streamOf, groupOf, groupCarried, streamCarried, frameCarried, carriedOut}
+use Rattle.lines.specs.Lines.{valuesOf}
+use Rattle.lines.proofs.Endings.{refusal-number}
+use Rattle.report.specs.Steps.{replyOf, setUpAnswer, shownOf, frameAnswer, streamOf, groupOf, groupCarried, streamCarried, frameCarried, carriedOut}
 use Rattle.report.specs.declared.Carried.{Carried}
 
 module _ (b : Bridge) (i c M p : ℕ) (e : p ≡ placeOf GroupId i) (x : PlacedGroup) (y : x ≡ groupPlaced i (getD (b .groups) p noGroup) c M) where
@@ -96,3 +102,22 @@ module _ (b : Bridge) (call : Call) (p q s k : ℕ) (e : p ≡ placeOf StreamId 
 
   pub call-replies : replyOf (x .answer) ≡ reply b call
   call-replies = ap (λ (z : Carried). replyOf (z .answer)) y ∙ replied call (e ∙ ap (placeOf StreamId) es) (f ∙ ap (placeOf GroupId) fk)
+
+-- ---- the number returned has at most three digits
+
+set-up-small : (a : SetUp) → setUpNumber a < 256
+unfolding setUpNumber
+set-up-small set-up.Done = omega arith
+set-up-small (set-up.Refused why) = refusal-number why .1
+
+frame-small : (a : Answer) → answerNumber a < 256
+unfolding answerNumber
+frame-small (Released T) = omega arith
+frame-small (Discarded T) = omega arith
+frame-small (Refused why) = refusal-number why .1
+
+pub reply-small : (b : Bridge) (k : Call) → reply b k .number < 256
+unfolding reply
+reply-small b (group i c M) = set-up-small (groupCalled b i c M .answer)
+reply-small b (stream i k r u) = set-up-small (streamCalled b i k r u .answer)
+reply-small b (frame i n A) = frame-small (frameCalled b i n A .answer)

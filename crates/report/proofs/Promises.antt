@@ -9,9 +9,7 @@ use native.Mathlib.Nat.{zero-add, sub-zero, add-assoc, add-zero}
 use native.Mathlib.Omega.{arith}
 use lib.Dec.{ltb}
 use lib.ListN.{length, take, drop, length-append, length-drop, length-take, take-append-drop}
-use Rattle.text.specs.Places.{Placed}
-use lib.Seq.{sets, length-sets, drop-append-add, drop-drop, length-take-le, drop-append-le}
-use Rattle.quantity.specs.Numbers.{numberOf}
+use lib.Seq.{drop-append-add, drop-drop, length-take-le, drop-append-le}
 use Rattle.quantity.specs.declared.Refusal.{Refusal}
 use Rattle.quantity.specs.declared.Refusal.the-variants.{UnknownMark, CutShort}
 use Rattle.tablefile.specs.BigEndian.{AreBytes}
@@ -29,17 +27,18 @@ use Rattle.reader.proofs.RoundTrip.{one-at-a-time, found-in-the-whole}
 use Rattle.records.specs.Numbers.{answerNumber, answerValues}
 use Rattle.records.specs.declared.Answer.{Answer}
 use Rattle.records.specs.declared.Answer.the-variants as answer
-use Rattle.bridge.specs.Calls.{groupCalled, streamCalled, frameCalled}
+use Rattle.bridge.specs.Calls.{frameCalled}
 use Rattle.bridge.specs.History.{Call, group, stream, frame, Reply, reply, afterCall}
 use Rattle.bridge.specs.declared.Bridge.{Bridge}
-use Rattle.report.specs.Lines.{callOf, dash, column, lineOf, recordLine}
-use Rattle.report.specs.Listing.{recordLines, endLine, ending, listingOf, listingFrom}
-use Rattle.report.specs.Parts.{lineRoom, endRoom, mayEnd, endPut, Part, onto, mayGoOn, goingOn, stopsAt, partFor, partOf}
-use Rattle.report.specs.Promises.{DefaultAsInFull, AsFarAsItMay, TimeOfJudgedFrames, ListingInParts, ListingToItsEnd, PartWithin, EndWithin}
-use Rattle.report.proofs.Texts.{line-short, end-line-short}
+use Rattle.lines.specs.Lines.{dash, column, ending}
+use Rattle.lines.specs.Places.{lineRoom}
+use Rattle.lines.proofs.Endings.{refusal-number}
+use Rattle.report.specs.Records.{callOf, recordLine}
+use Rattle.report.specs.Listing.{recordLines, listingOf, listingFrom}
+use Rattle.report.specs.Parts.{Part, onto, mayGoOn, goingOn, stopsAt, partFor, partOf}
+use Rattle.report.specs.Promises.{DefaultAsInFull, AsFarAsItMay, TimeOfJudgedFrames, ListingInParts, ListingToItsEnd, PartWithin}
 use Rattle.report.proofs.Stepping.{may-means}
-use Rattle.report.proofs.Endings.{refusal-number, set-up-small, frame-small, plain-ending, refused-ending, may-end}
-use Rattle.report.proofs.Underway.{found-further}
+use Rattle.report.proofs.Underway.{found-further, line-within}
 
 pub default-as-in-full : DefaultAsInFull
 unfolding callOf
@@ -163,16 +162,6 @@ module _ (part after : List ℕ) (h : AreBytes part) where
 
 -- ---- within
 
-reply-small : (b : Bridge) (k : Call) → reply b k .number < 256
-unfolding reply
-reply-small b (group i c M) = set-up-small (groupCalled b i c M .answer)
-reply-small b (stream i k r u) = set-up-small (streamCalled b i k r u .answer)
-reply-small b (frame i n A) = frame-small (frameCalled b i n A .answer)
-
-line-within : (b : Bridge) (n : ℕ) (r : Record) → length (recordLine b n r) ≤ lineRoom
-unfolding recordLine
-line-within b n r = line-short (n + 1) (mark (kindOf r)) (reply b (callOf r)) (mark-width (kindOf r)) (reply-small b (callOf r))
-
 module _ (bytes : List ℕ) where
   Within : ℕ → Part → Type 0
   Within room x = (x .place ≤ length bytes) × (length (x .text) ≤ room)
@@ -252,27 +241,6 @@ listing-to-its-end bytes h room b n ended =
     ap (λ (l : List ℕ). listingFrom b n l) (sym all)
     ∙ parts bytes [] h (suc (length bytes)) room b n 0
     ∙ ap (λ (l : List ℕ). P .text ++ l) (no-record-ends (P .bridge) (P .count) (bytes ++ []) (P .place) (no-record (P .reading) ended) there)
-
-ending-short : (n : ℕ) (x : Reading) → length (ending n (readingNumber x)) ≤ lineRoom + endRoom
-ending-short n (Found r next) = omega (arith, ap length (plain-ending n 0 (omega arith)), end-line-short n)
-ending-short n NothingLeft = omega (arith, ap length (plain-ending n nothingLeft (omega arith)), end-line-short n)
-ending-short n (Refused why) =
-    let a : Reply = record { number = numberOf why; values = [] } in
-    let line = lineOf (n + 1) (dash ∷ dash ∷ []) a in
-    omega (arith, ap length (refused-ending n why), length-append line (endLine (n + 1)), line-short (n + 1) (dash ∷ dash ∷ []) a refl (refusal-number why .1), end-line-short (n + 1))
-
-pub end-within : EndWithin
-unfolding endPut
-end-within l at n x h = go (mayEnd n at (length l)) refl
-  where
-    put : Placed
-    put = record { next = at + length (ending n (readingNumber x)); bytes = sets l at (ending n (readingNumber x)) }
-
-    go : (t : Bool) → mayEnd n at (length l) ≡ t
-        → (cond {A = Placed} t put (record { next = at; bytes = l }) .next ≤ length l)
-        × (length (cond {A = Placed} t put (record { next = at; bytes = l }) .bytes) ≡ length l)
-    go true e = (omega (arith, may-end n at (length l) e, ending-short n x), length-sets l at (ending n (readingNumber x)))
-    go false e = (h, refl)
 
 -- ---- as far as it may
 

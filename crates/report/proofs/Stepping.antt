@@ -15,10 +15,11 @@ use Rattle.tablefile.specs.declared.Reading.{Reading}
 use Rattle.tablefile.specs.declared.Reading.the-variants.{Found, NothingLeft, Refused}
 use Rattle.records.specs.Numbers.{answerNumber}
 use Rattle.records.specs.declared.Answer.{Answer}
-use Rattle.report.specs.Parts.{lineRoom, mostLines, Part, mayGoOn, goingOn}
+use Rattle.lines.specs.Places.{lineRoom, mostLines}
+use Rattle.report.specs.Parts.{Part, mayGoOn, goingOn}
 use Rattle.report.specs.Steps.{shownOf, frameAnswer, nextStep}
-use Rattle.report.specs.declared.Shown.{Shown}
-use Rattle.report.specs.declared.Answered.{Answered}
+use Rattle.lines.specs.declared.Shown.{Shown}
+use Rattle.lines.specs.declared.Answered.{Answered}
 use Rattle.report.specs.declared.Step.{Step}
 use Rattle.report.specs.declared.Step.the-variants.{Ends, Goes}
 

@@ -15,14 +15,19 @@ use Rattle.tablefile.proofs.Fields.{mark-width}
 use Rattle.reader.proofs.OneRecord.{Front, whole, front}
 use Rattle.bridge.specs.History.{Reply, reply, afterCall}
 use Rattle.bridge.specs.declared.Bridge.{Bridge}
-use Rattle.report.specs.Lines.{callOf, lineOf, recordLine}
-use Rattle.report.specs.Parts.{lineRoom, mostLines, Part, onto, mayGoOn, goingOn, stopsAt, partFor, partOf, ListedPart, listedOf, partPut, partListed}
-use Rattle.report.specs.Steps.{Put, replyOf, nextStep}
-use Rattle.report.specs.declared.Answered.{Answered}
+use Rattle.lines.specs.Lines.{valuesOf, lineOf}
+use Rattle.lines.specs.Places.{lineRoom, mostLines, linePut}
+use Rattle.lines.specs.Steps.{Put}
+use Rattle.report.specs.Records.{callOf, recordLine}
+use Rattle.report.specs.Parts.{Part, onto, mayGoOn, goingOn, stopsAt, partFor, partOf, ListedPart, listedOf, partPut, partListed}
+use Rattle.report.specs.Steps.{replyOf, nextStep}
+use Rattle.lines.specs.declared.Answered.{Answered}
 use Rattle.report.specs.declared.Listed.{Listed}
 use Rattle.report.specs.declared.Step.the-variants.{Ends}
-use Rattle.report.proofs.Texts.{put-then, put-text, put-length}
+use Rattle.lines.proofs.Texts.{put-then, put-length, line-short}
+use Rattle.lines.proofs.Placing.{line-is-put}
 use Rattle.report.proofs.Stepping.{Going, ended, goes-on, mark-letters}
+use Rattle.report.proofs.Calls.{reply-small}
 
 -- ---- places
 
@@ -52,15 +57,22 @@ onto-onto : (a b : List ℕ) (x : Part) → onto a (onto b x) ≡ onto (a ++ b) 
 unfolding onto
 onto-onto a b x = rw (append-assoc a b (x .text))
 
--- the line that was put is the record's
-own-line : (b : Bridge) (n : ℕ) (r : Record) (letters : List ℕ) (a : Answered)
-    → letters ≡ mark (kindOf r) → replyOf a ≡ reply b (callOf r)
-    → lineOf (n + 1) (getD letters 0 0 ∷ getD letters 1 0 ∷ []) (replyOf a) ≡ recordLine b n r
+pub line-within : (b : Bridge) (n : ℕ) (r : Record) → length (recordLine b n r) ≤ lineRoom
 unfolding recordLine
+line-within b n r = let a = reply b (callOf r) in line-short (n + 1) (mark (kindOf r)) (a .number) (a .values) (mark-width (kindOf r)) (reply-small b (callOf r))
+
+-- the line that an answer and two letters make
+ownLine : ℕ → List ℕ → Answered → List ℕ
+ownLine n letters a = lineOf n (getD letters 0 0 ∷ getD letters 1 0 ∷ []) (a .number) (valuesOf (a .time))
+
+-- is the record's
+own-line : (b : Bridge) (n : ℕ) (r : Record) (letters : List ℕ) (a : Answered)
+    → letters ≡ mark (kindOf r) → replyOf a ≡ reply b (callOf r) → ownLine (n + 1) letters a ≡ recordLine b n r
+unfolding ownLine recordLine replyOf
 own-line b n r letters a g h =
-    ap (λ (l : List ℕ). lineOf (n + 1) (getD l 0 0 ∷ getD l 1 0 ∷ []) (replyOf a)) g
-    ∙ ap (λ (m : List ℕ). lineOf (n + 1) m (replyOf a)) (mark-letters r)
-    ∙ ap (lineOf (n + 1) (mark (kindOf r))) h
+    ap (λ (l : List ℕ). ownLine (n + 1) l a) g
+    ∙ ap (λ (m : List ℕ). lineOf (n + 1) m (a .number) (valuesOf (a .time))) (mark-letters r)
+    ∙ ap (λ (x : Reply). lineOf (n + 1) (mark (kindOf r)) (x .number) (x .values)) h
 
 -- ---- under way
 
@@ -135,18 +147,21 @@ module _ (bytes out₀ : List ℕ) (b₀ : Bridge) (n₀ : ℕ) (b : Bridge) (n 
         )
 
     pub turns : (b' : Bridge) → b' ≡ afterCall b (callOf r) → (letters : List ℕ) → letters ≡ mark (kindOf r) → (a : Answered) → replyOf a ≡ reply b (callOf r)
-        → {w' : ℕ} {out' : List ℕ} → Put out w (lineOf (n + 1) (getD letters 0 0 ∷ getD letters 1 0 ∷ []) (replyOf a)) w' out' × (w' ≤ w + lineRoom)
+        → {w' : ℕ} {out' : List ℕ} → record { next = w'; bytes = out' } ≡ linePut out w (n + 1) letters a
         → Underway bytes out₀ b₀ n₀ b' (n + 1) next w' out'
+    unfolding ownLine
     turns b' e letters f a h {w'} {out'} q =
-        let line = lineOf (n + 1) (getD letters 0 0 ∷ getD letters 1 0 ∷ []) (replyOf a) in
-        let t = turned (u .more) (u .enough) b' e line (own-line b n r letters a f h) w' (q .0 .ends) in
-        let p' = put-then (u .text) line (u .put) (q .0) in
+        let line = ownLine (n + 1) letters a in
+        let own = own-line b n r letters a f h in
+        let put = line-is-put out w (n + 1) letters a (omega (arith, g .roomy)) q in
+        let t = turned (u .more) (u .enough) b' e line own w' (put .ends) in
+        let p' = put-then (u .text) line (u .put) put in
         record {
           more = t .0;
           enough = t .1;
           text = u .text ++ line;
           put = p';
-          within = omega (arith, q .1, g .roomy, room-left, u .within);
+          within = omega (arith, put .ends, ap length own, line-within b n r, g .roomy, room-left);
           long = put-length (u .text ++ line) p';
           inside = goes-further .1;
           total = u .total ∙ ap (onto (u .text)) (t .2) ∙ onto-onto (u .text) line (partFor (t .0) bytes (length out₀ - w') b' (n + 1) next);

@@ -9,8 +9,9 @@ use Rattle.bridge.specs.History.{reply, afterCall}
 use Rattle.calls.specs.Numbers.{setUpNumber}
 use Rattle.bridge.specs.Tables.{groupAt, streamAt, withGroup, withStream, freshBridge}
 use Rattle.quantity.specs.Ranges.{inRange}
-use Rattle.report.specs.Lines.{recordLine, lineOf, column, callOf}
-use Rattle.report.specs.Listing.{listing, listingOf, recordLines, ending, endLine}
+use Rattle.lines.specs.Lines.{lineOf, column, ending, endLine}
+use Rattle.report.specs.Records.{recordLine, callOf}
+use Rattle.report.specs.Listing.{listing, listingOf, recordLines}
 use Rattle.quantity.specs.Charge.{chargedBits}
 use Rattle.records.specs.ExactTime.{exactly, momentOf, roundedUp, E-first}
 use Rattle.shaper.specs.Frame.{processFrame, settled, discarded, released, eligibilityTime, earliest, afterRelease, S, F, E-after}

@@ -1,4 +1,4 @@
-pub mod Lines
+pub mod Records
 pub mod Listing
 pub mod Parts
 pub mod Steps

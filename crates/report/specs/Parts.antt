@@ -1,35 +1,20 @@
--- Document 01, 'The table file', for a listing in parts: what is listed of a part of a file into lent bytes, and what ends a listing.
+-- Document 01, 'The table file', for a listing in parts: what is listed of a part of a file into lent bytes.
 -- b is the bridge, n a count of lines, p a place in the bytes, room the lent bytes that are left.
 use Prim.Native.Nat.{ℕ, zero, suc, _+_, _-_}
-use mathlib.Core.Bool.{Bool, true, false, cond, _&&_}
+use mathlib.Core.Bool.{Bool, true, false, _&&_}
 use mathlib.Core.List.{List, [], _++_}
 use lib.Dec.{ltb, leb}
 use lib.ListN.{length}
 use lib.Seq.{sets}
-use Rattle.text.specs.Places.{Placed}
 use Rattle.reader.specs.Reader.{readAt}
-use Rattle.tablefile.specs.Answers.{readingNumber}
 use Rattle.tablefile.specs.declared.Record.{Record}
 use Rattle.tablefile.specs.declared.Reading.{Reading}
 use Rattle.tablefile.specs.declared.Reading.the-variants.{Found, NothingLeft, Refused}
 use Rattle.bridge.specs.History.{afterCall}
 use Rattle.bridge.specs.declared.Bridge.{Bridge}
-use Rattle.report.specs.Lines.{callOf, recordLine}
-use Rattle.report.specs.Listing.{ending}
+use Rattle.lines.specs.Places.{lineRoom, mostLines}
+use Rattle.report.specs.Records.{callOf, recordLine}
 use Rattle.report.specs.declared.Listed.{Listed}
-
--- no line of numbers of 64 bits is longer, and no end line
-abbrev pub lineRoom : ℕ
-lineRoom = 49
-
-abbrev pub endRoom : ℕ
-endRoom = 25
-
--- the most lines that a number of 64 bits counts
-abbrev pub mostLines : ℕ
-mostLines = 18_446_744_073_709_551_615
-
--- ---- a part of a file
 
 -- the tables and the count of lines after the records that have their lines, the place after those records and what the reader gives there, and the lines
 pub record Part : Type 0 where
@@ -82,16 +67,3 @@ partPut out x = record { listed = listedOf x; out = sets out 0 (x .text) }
 
 unfoldable pub partListed : List ℕ → Bridge → ℕ → List ℕ → ListedPart
 partListed bytes b n out = partPut out (partOf bytes (length out) b n)
-
--- ---- the end
-
--- a longest line and a longest end line have room, and one more line can be counted
-unfoldable pub mayEnd : ℕ → ℕ → ℕ → Bool
-mayEnd n at size = leb (at + (lineRoom + endRoom)) size && ltb n mostLines
-
--- what ends the listing, put at a place of lent bytes where it may be; else nothing changes
-unfoldable pub endPut : List ℕ → ℕ → ℕ → Reading → Placed
-endPut l at n x =
-    cond (mayEnd n at (length l))
-    (record { next = at + length (ending n (readingNumber x)); bytes = sets l at (ending n (readingNumber x)) })
-    (record { next = at; bytes = l })

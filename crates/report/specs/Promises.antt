@@ -11,12 +11,12 @@ use Rattle.tablefile.specs.Layout.{FR, kindOf}
 use Rattle.tablefile.specs.Answers.{nothingLeft, readingNumber}
 use Rattle.tablefile.specs.Meaning.{defaultResidence, inFull}
 use Rattle.tablefile.specs.declared.Record.{Record}
-use Rattle.tablefile.specs.declared.Reading.{Reading}
 use Rattle.bridge.specs.History.{reply}
 use Rattle.bridge.specs.declared.Bridge.{Bridge}
-use Rattle.report.specs.Lines.{callOf, dash, column}
-use Rattle.report.specs.Listing.{ending, listingFrom}
-use Rattle.report.specs.Parts.{mayGoOn, partOf, endPut}
+use Rattle.lines.specs.Lines.{dash, column, ending}
+use Rattle.report.specs.Records.{callOf}
+use Rattle.report.specs.Listing.{listingFrom}
+use Rattle.report.specs.Parts.{mayGoOn, partOf}
 
 -- a GD record does what the GR does that it stands for
 abbrev pub DefaultAsInFull : Type 0
@@ -53,9 +53,3 @@ abbrev pub PartWithin : Type 0
 PartWithin =
     (bytes : List ℕ) (room : ℕ) (b : Bridge) (n : ℕ)
     → (partOf bytes room b n .place ≤ length bytes) × (length (partOf bytes room b n .text) ≤ room)
-
--- what ends a listing stays within the lent bytes, which stay as many
-abbrev pub EndWithin : Type 0
-EndWithin =
-    (l : List ℕ) (at n : ℕ) (x : Reading) → at ≤ length l
-    → (endPut l at n x .next ≤ length l) × (length (endPut l at n x .bytes) ≡ length l)

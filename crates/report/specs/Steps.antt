@@ -1,12 +1,7 @@
 -- What the private steps give. No sentence of the document stands here.
--- l is lent bytes, at a place in them, ts a text, n a count of lines, room the lent bytes that are left.
-use Prim.Native.Nat.{ℕ, _+_}
-use mathlib.Core.Path.{_≡_}
+-- n is a count of lines, room the lent bytes that are left.
+use Prim.Native.Nat.{ℕ}
 use mathlib.Core.Bool.{cond}
-use mathlib.Core.List.{List, [], _∷_}
-use lib.ListN.{length}
-use lib.Seq.{sets}
-use Rattle.quantity.specs.Numbers.{numberOf}
 use Rattle.records.specs.Numbers.{answerNumber}
 use Rattle.records.specs.declared.Answer.{Answer}
 use Rattle.records.specs.declared.Answer.the-variants as answer
@@ -21,34 +16,16 @@ use Rattle.calls.specs.declared.PlacedGroup.{PlacedGroup}
 use Rattle.calls.specs.declared.PlacedStream.{PlacedStream}
 use Rattle.tablefile.specs.declared.Reading.{Reading}
 use Rattle.tablefile.specs.declared.Reading.the-variants.{Found, NothingLeft, Refused}
+use Rattle.lines.specs.Lines.{valuesOf}
+use Rattle.lines.specs.declared.Shown.{Shown}
+use Rattle.lines.specs.declared.Shown.the-variants.{Time, Dash}
+use Rattle.lines.specs.declared.Answered.{Answered}
 use Rattle.report.specs.Parts.{mayGoOn}
-use Rattle.report.specs.declared.Shown.{Shown}
-use Rattle.report.specs.declared.Shown.the-variants.{Time, Dash}
-use Rattle.report.specs.declared.Answered.{Answered}
 use Rattle.report.specs.declared.Step.{Step}
 use Rattle.report.specs.declared.Step.the-variants.{Ends, Goes}
 use Rattle.report.specs.declared.Carried.{Carried}
 
--- the most digits of a number of 64 bits; the most characters of a line up to its letters and the space after them, and from there to its end
-abbrev pub mostDigits : ℕ
-mostDigits = 20
-
-abbrev pub headRoom : ℕ
-headRoom = 24
-
-abbrev pub tailRoom : ℕ
-tailRoom = 25
-
--- a text was put at a place, and the next place is the one after it
-pub record Put (l : List ℕ) (at : ℕ) (ts : List ℕ) (next : ℕ) (out : List ℕ) : Type 0 where
-  pub ends : next ≡ at + length ts
-  pub stands : out ≡ sets l at ts
-
 -- ---- answers
-
-unfoldable pub valuesOf : Shown → List ℕ
-valuesOf (Time T) = T .0 ∷ []
-valuesOf Dash = []
 
 unfoldable pub replyOf : Answered → Reply
 replyOf a = record { number = a .number; values = valuesOf (a .time) }

@@ -1,11 +1,13 @@
-// What a record of the table file does to the tables, the line that it gets, and the listing of a part of a file.
-// Reading a record is `reader`'s, the calls are `bridge`'s, decimal numbers are `text`'s. Input and output live with
+// What a record of the table file does to the tables, and the listing of a part of a file.
+// Reading a record is `reader`'s, the calls are `calls`'s, the text of a line is `lines`'s. Input and output live with
 // the programs. The loop keeps the tables as its own arrays, so that no table is copied for a record.
 use bridge::Bridge;
 use calls::SetUp;
+use lines::Answered;
+use lines::Shown;
 use quantity::Bits;
+use quantity::Item;
 use quantity::Rate;
-use quantity::Refusal;
 use quantity::Ticks;
 use records::Answer;
 use records::Group;
@@ -13,40 +15,13 @@ use records::Stream;
 use tablefile::Reading;
 use tablefile::Record;
 ghost use mathlib.Core.Path.{_≡_};
-ghost use mathlib.Core.List.{[], _∷_, _++_};
-ghost use Prim.Native.Nat.{_+_, _≤_, _<_};
-ghost use lib.ListN.{length, getD};
-ghost use Rattle.quantity.specs.Numbers.{numberOf};
 ghost use Rattle.calls.specs.Calls.{groupPlaced, streamPlaced, judgedAt};
-ghost use Rattle.text.specs.Decimal.{decimal};
-ghost use Rattle.text.specs.Places.{placed};
-ghost use Rattle.report.specs.Lines.{callOf, space, newline, column, lineOf};
-ghost use Rattle.report.specs.Listing.{endLine, ending};
-ghost use Rattle.report.specs.Parts.{lineRoom, endRoom, mostLines, partListed, endPut};
-ghost use Rattle.report.specs.Steps.{mostDigits, headRoom, tailRoom, Put, valuesOf, replyOf, setUpAnswer, frameAnswer, nextStep, streamOf, groupOf, groupCarried, streamCarried, frameCarried, carriedOut};
+ghost use Rattle.report.specs.Records.{callOf};
+ghost use Rattle.report.specs.Parts.{partListed};
+ghost use Rattle.report.specs.Steps.{setUpAnswer, frameAnswer, nextStep, streamOf, groupOf, groupCarried, streamCarried, frameCarried, carriedOut};
 
-// No line is longer: 20 digits, a space, two letters, a space, three digits, a space, 20 digits, and the line's end.
-pub const LINE_ROOM: usize = 49;
-
-// No end line is longer: `end`, a space, 20 digits, and the line's end.
-pub const END_ROOM: usize = 25;
-
-// The lines are counted up to this one.
-pub const MOST_LINES: u64 = 18_446_744_073_709_551_615;
-
-// The last column of a line. Public, with the three types that follow, for definitions of other crates.
-pub enum Shown {
-    Time(Ticks),
-    Dash,
-}
-
-// What a record's call answers: document 01's number, and T where there is one.
-pub struct Answered {
-    pub number: u8,
-    pub time: Shown,
-}
-
-// What a record's call answers, and the stream and the group that it looked at, as it leaves them.
+// What a record's call answers, and the stream and the group that it looked at, as it leaves them. Public, with the type
+// that follows, for definitions of other crates.
 pub struct Carried {
     pub answer: Answered,
     pub stream: Stream,
@@ -109,10 +84,10 @@ fn next_step(reading: Reading, count: u64, room: usize) -> Step
 {
     match reading {
         Reading::Found { record, next } => {
-            if room < LINE_ROOM {
+            if room < lines::LINE_ROOM {
                 return Step::Ends(reading);
             }
-            if count >= MOST_LINES {
+            if count >= lines::MOST_LINES {
                 return Step::Ends(reading);
             }
             Step::Goes { record, next }
@@ -226,67 +201,6 @@ fn carry_out(given: Record, stream: Stream, group: Group) -> Carried
     }
 }
 
-// ---- the text of a line, where there is room for it
-
-// The number of a line and its two letters, with the spaces after them.
-fn put_head(out: &mut [u8], at: usize, number: u64, letters: [u8; 2]) -> usize
-    requires { ⌜ at + headRoom ≤ length (now out) ⌝ }
-    ensures { λ r. ⌜ Put (now (out .entry)) at (decimal number ++ (space ∷ getD letters 0 0 ∷ getD letters 1 0 ∷ space ∷ [])) r (now (out .exit)) ⌝ }
-{
-    let after = text::put_decimal(out, at, number);
-    out[after] = b' ';
-    out[after + 1] = letters[0];
-    out[after + 2] = letters[1];
-    out[after + 3] = b' ';
-    after + 4
-}
-
-// The last column.
-fn put_shown(out: &mut [u8], at: usize, time: Shown) -> usize
-    requires { ⌜ at + mostDigits ≤ length (now out) ⌝ }
-    ensures { λ r. ⌜ Put (now (out .entry)) at (column (valuesOf time)) r (now (out .exit)) ⌝ }
-{
-    match time {
-        Shown::Time(ticks) => text::put_decimal(out, at, ticks.0),
-        Shown::Dash => {
-            out[at] = b'-';
-            at + 1
-        }
-    }
-}
-
-// The number returned. Most are of one digit, which needs no count of digits.
-fn put_number(out: &mut [u8], at: usize, number: u8) -> usize
-    ensures { λ r. ⌜ record { next = r; bytes = now (out .exit) } ≡ placed (now (out .entry)) at (decimal number) ⌝ }
-{
-    if number < 10 {
-        return text::put_byte(out, at, b'0' + number);
-    }
-    text::put_decimal(out, at, number as u64)
-}
-
-// The number returned and the last column, to the line's end.
-fn put_tail(out: &mut [u8], at: usize, number: u8, time: Shown) -> usize
-    requires { ⌜ at + tailRoom ≤ length (now out) ⌝ }
-    ensures { λ r. ⌜ Put (now (out .entry)) at (decimal number ++ (space ∷ (column (valuesOf time) ++ (newline ∷ [])))) r (now (out .exit)) × (r ≤ at + tailRoom) ⌝ }
-{
-    let after = put_number(out, at, number);
-    out[after] = b' ';
-    let last = put_shown(out, after + 1, time);
-    out[last] = b'\n';
-    last + 1
-}
-
-fn put_line(out: &mut [u8], at: usize, number: u64, letters: [u8; 2], answer: Answered) -> usize
-    requires { ⌜ at + lineRoom ≤ length (now out) ⌝ }
-    ensures { λ r. ⌜ Put (now (out .entry)) at (lineOf number (getD letters 0 0 ∷ getD letters 1 0 ∷ []) (replyOf answer)) r (now (out .exit)) × (r ≤ at + lineRoom) ⌝ }
-{
-    let returned = answer.number;
-    let time = answer.time;
-    let tail = put_head(out, at, number, letters);
-    put_tail(out, tail, returned, time)
-}
-
 // ---- the listing
 
 // Carries out the records of a part of a file, from its start on, and puts their lines at the front of `out`.
@@ -295,88 +209,37 @@ pub fn list_part(bytes: &[u8], bridge: Bridge, count: u64, out: &mut [u8]) -> Li
 {
     let mut groups = bridge.groups;
     let mut streams = bridge.streams;
-    let mut lines = count;
+    let mut number = count;
     let mut place: usize = 0;
     let mut written: usize = 0;
     loop {
         let reading = reader::read(bytes, place);
-        let step = next_step(reading, lines, out.len() - written);
+        let step = next_step(reading, number, out.len() - written);
         match step {
             Step::Ends(why) => {
                 return Listed {
                     bridge: Bridge { groups, streams },
-                    count: lines,
+                    count: number,
                     place,
                     reading: why,
                     written,
                 };
             }
             Step::Goes { record, next } => {
-                let at = calls::stream_place(stream_of(record));
+                let at = quantity::place_of(Item::StreamId, stream_of(record));
                 let stream = streams[at];
-                let of = calls::group_place(group_of(record, stream.group));
+                let of = quantity::place_of(Item::GroupId, group_of(record, stream.group));
                 let carried = carry_out(record, stream, groups[of]);
                 let stream_after = carried.stream;
                 let group_after = carried.group;
                 let answer = carried.answer;
                 groups[of] = group_after;
                 streams[at] = stream_after;
-                lines += 1;
-                written = put_line(out, written, lines, tablefile::letters(record), answer);
+                number += 1;
+                written = lines::put_line(out, written, number, tablefile::letters(record), answer);
                 place = next;
                 continue;
             }
         }
-    }
-}
-
-// ---- the end of the listing
-
-// The last line: `end` and the count of the lines before it.
-fn put_count(out: &mut [u8], at: usize, count: u64) -> usize
-    requires { ⌜ at + endRoom ≤ length (now out) ⌝ }
-    ensures { λ r. ⌜ Put (now (out .entry)) at (endLine count) r (now (out .exit)) ⌝ }
-{
-    out[at] = b'e';
-    out[at + 1] = b'n';
-    out[at + 2] = b'd';
-    out[at + 3] = b' ';
-    let last = text::put_decimal(out, at + 4, count);
-    out[last] = b'\n';
-    last + 1
-}
-
-// The line of what ended the reading, and the last line.
-fn put_refused(out: &mut [u8], at: usize, count: u64, why: Refusal) -> usize
-    requires { ⌜ (at + (lineRoom + endRoom) ≤ length (now out)) × (count < mostLines) ⌝ }
-    ensures { λ r. ⌜ Put (now (out .entry)) at (ending count (numberOf why)) r (now (out .exit)) ⌝ }
-{
-    let answer = Answered {
-        number: quantity::refusal_number(why),
-        time: Shown::Dash,
-    };
-    let last = put_line(out, at, count + 1, [b'-', b'-'], answer);
-    put_count(out, last, count + 1)
-}
-
-// Puts what ends a listing of so many lines at a place, where the longest such text has room and one more line can be
-// counted.
-pub fn put_end(out: &mut [u8], at: usize, count: u64, reading: Reading) -> usize
-    ensures { λ r. ⌜ record { next = r; bytes = now (out .exit) } ≡ endPut (now (out .entry)) at count reading ⌝ }
-{
-    let len = out.len();
-    if len < at {
-        return at;
-    }
-    if len - at < LINE_ROOM + END_ROOM {
-        return at;
-    }
-    if count >= MOST_LINES {
-        return at;
-    }
-    match reading {
-        Reading::Found { .. } => put_count(out, at, count),
-        Reading::NothingLeft => put_count(out, at, count),
-        Reading::Refused(why) => put_refused(out, at, count, why),
     }
 }

@@ -1,7 +1,7 @@
 -- `report::carry_frame` meets its contract. Assumes nothing.
 use borrow.Author.Needs.{needs}
 use mathlib.Core.Path.{_≡_, refl, sym, ap, _∙_}
-use Rattle.report.specs.declared.Answered.{Answered}
+use Rattle.lines.specs.declared.Answered.{Answered}
 use Rattle.report.specs.Steps.{frameCarried}
 use Rattle.report.proofs.carry_frame.Statement.{statement}
 use Rattle.report.proofs.carry_frame.Tie as tie

@@ -1,7 +1,7 @@
 -- `report::carry_stream` meets its contract. Assumes nothing.
 use borrow.Author.Needs.{needs}
 use mathlib.Core.Path.{_≡_, refl, sym, ap, _∙_}
-use Rattle.report.specs.declared.Answered.{Answered}
+use Rattle.lines.specs.declared.Answered.{Answered}
 use Rattle.report.specs.Steps.{streamCarried}
 use Rattle.report.proofs.carry_stream.Statement.{statement}
 use Rattle.report.proofs.carry_stream.Tie as tie

@@ -1,7 +1,7 @@
 -- `report::group_of` meets its contract. Assumes nothing.
 use borrow.Author.Needs.{needs}
 use mathlib.Core.Path.{_≡_, refl, sym, ap, _∙_}
-use Rattle.report.specs.Lines.{callOf}
+use Rattle.report.specs.Records.{callOf}
 use Rattle.report.specs.Steps.{groupOf}
 use Rattle.tablefile.specs.declared.Record.{Record}
 use Rattle.report.proofs.group_of.Statement.{statement}

@@ -12,11 +12,11 @@ use Rattle.report.proofs.list_part.Statement.{statement}
 use Rattle.report.proofs.list_part.Tie as tie
 
 abbrev Inv-loop : tie.InvT-loop
-Inv-loop bytes count out₀ groups₀ streams₀ lines₀ place₀ written₀ out groups streams lines place written =
-    Underway bytes out₀ (record { groups = groups₀; streams = streams₀ }) lines₀ (record { groups = groups; streams = streams }) lines place written out
+Inv-loop bytes count out₀ groups₀ streams₀ number₀ place₀ written₀ out groups streams number place written =
+    Underway bytes out₀ (record { groups = groups₀; streams = streams₀ }) number₀ (record { groups = groups; streams = streams }) number place written out
 
 abbrev μ-loop : tie.MeasureT-loop
-μ-loop bytes count out₀ groups₀ streams₀ lines₀ place₀ written₀ out groups streams lines place written =
+μ-loop bytes count out₀ groups₀ streams₀ number₀ place₀ written₀ out groups streams number place written =
     length bytes - place
 
 loop-holds : tie.Need-loop-holds Inv-loop μ-loop
@@ -50,22 +50,22 @@ enum-known-step-2 c = search needs
 stream-of-requires : tie.Need-stream-of-requires Inv-loop μ-loop
 stream-of-requires c κs = tt
 
-stream-place-requires : tie.Need-stream-place-requires Inv-loop μ-loop
-stream-place-requires c κs = tt
+place-of-requires : tie.Need-place-of-requires Inv-loop μ-loop
+place-of-requires c κs = tt
 
 -- what the next step says, where it goes on
 goes : (c : tie.After-step2 Inv-loop μ-loop)
-    → let l = c .before .before .before .before .loop in Going (c .before .before .before .read .result) (l .lines) (length (l .out) - l .written) (c .step2 .given .0 .0) (c .step2 .given .0 .1 .0)
+    → let l = c .before .before .before .before .loop in Going (c .before .before .before .read .result) (l .number) (length (l .out) - l .written) (c .step2 .given .0 .0) (c .step2 .given .0 .1 .0)
 goes c = going _ _ _ _ _ (sym (c .step2 .given .1) ∙ c .before .before .next-step .ensures)
 
 further : (c : tie.After-step2 Inv-loop μ-loop) → let l = c .before .before .before .before .loop in (l .place < c .step2 .given .0 .1 .0) × (c .step2 .given .0 .1 .0 ≤ length (c .before .before .before .before .before .before .before .before .before .args .bytes .now))
 further c = let n = c .before .before in goes-further _ _ _ _ _ _ _ _ _ (n .before .before .loop .inv) _ (n .before .read .ensures) _ _ (goes c)
 
-stream-in : (c : tie.After-stream-place Inv-loop μ-loop) → c .stream-place .result < 64
-stream-in c = omega (arith, c .stream-place .ensures, place-most StreamId (c .before .stream-of .result))
+stream-in : (c : tie.After-place-of Inv-loop μ-loop) → c .place-of .result < 64
+stream-in c = omega (arith, c .place-of .ensures, place-most StreamId (c .before .stream-of .result))
 
-group-in : (c : tie.After-group-place Inv-loop μ-loop) → c .group-place .result < 16
-group-in c = omega (arith, c .group-place .ensures, place-most GroupId (c .before .group-of .result))
+group-in : (c : tie.After-place-of2 Inv-loop μ-loop) → c .place-of2 .result < 16
+group-in c = omega (arith, c .place-of2 .ensures, place-most GroupId (c .before .group-of .result))
 
 mul-stream : tie.Need-mul-stream Inv-loop μ-loop
 mul-stream c = omega (arith, stream-in c)
@@ -76,8 +76,8 @@ array-copy-out-stream c = stream-in c
 group-of-requires : tie.Need-group-of-requires Inv-loop μ-loop
 group-of-requires c κs = tt
 
-group-place-requires : tie.Need-group-place-requires Inv-loop μ-loop
-group-place-requires c κs = tt
+place-of-requires-2 : tie.Need-place-of-requires-2 Inv-loop μ-loop
+place-of-requires-2 c κs = tt
 
 mul-carry-out : tie.Need-mul-carry-out Inv-loop μ-loop
 mul-carry-out c = omega (arith, group-in c)
@@ -100,14 +100,14 @@ mul-streams c = omega (arith, stream-in (c .before .before .before .before .befo
 array-set-from-streams : tie.Need-array-set-from-streams Inv-loop μ-loop
 array-set-from-streams c = stream-in (c .before .before .before .before .before .before .before .before)
 
-add-lines : tie.Need-add-lines Inv-loop μ-loop
-add-lines c = omega (arith, goes (c .before .before .before .before .before .before .before .before .before .before .before) .counts)
+add-number : tie.Need-add-number Inv-loop μ-loop
+add-number c = omega (arith, goes (c .before .before .before .before .before .before .before .before .before .before .before) .counts)
 
 letters-requires : tie.Need-letters-requires Inv-loop μ-loop
 letters-requires c κs = tt
 
 put-line-requires : tie.Need-put-line-requires Inv-loop μ-loop
-put-line-requires c κs = omega (arith, goes (c .before .before .before .before .before .before .before .before .before .before .before .before .before) .roomy, c .before .before .before .before .before .before .before .before .before .before .before .before .before .before .before .before .before .loop .inv .within, c .before .before .before .before .before .before .before .before .before .before .before .before .before .before .before .before .before .loop .inv .long)
+put-line-requires c κs = tt
 
 loop-less : tie.Need-loop-less Inv-loop μ-loop
 loop-less c = omega (arith, further (c .before .before .before .before .before .before .before .before .before .before .before .before .before .before .before .before) .0, further (c .before .before .before .before .before .before .before .before .before .before .before .before .before .before .before .before) .1)
@@ -124,9 +124,9 @@ loop-again c =
     let s = f .before .before in
     let n = s .before .before in
     turns _ _ _ _ _ _ _ _ _ (n .before .before .loop .inv) _ (n .before .read .ensures) _ _ (goes s)
-    _ (call-after _ _ _ _ _ _ (i .stream-place .ensures) (f .stream-of .ensures) (q .group-place .ensures) (g .group-of .ensures) _ (x .carry-out .ensures))
+    _ (call-after _ _ _ _ _ _ (i .place-of .ensures) (f .stream-of .ensures) (q .place-of2 .ensures) (g .group-of .ensures) _ (x .carry-out .ensures))
     _ (e .letters .ensures)
-    _ (call-replies _ _ _ _ _ _ (i .stream-place .ensures) (f .stream-of .ensures) (q .group-place .ensures) (g .group-of .ensures) _ (x .carry-out .ensures))
+    _ (call-replies _ _ _ _ _ _ (i .place-of .ensures) (f .stream-of .ensures) (q .place-of2 .ensures) (g .group-of .ensures) _ (x .carry-out .ensures))
     (p .put-line .ensures)
 
 pub list-part-spec : {M : Type 1} → statement M
@@ -144,11 +144,11 @@ list-part-spec =
     returns
     enum-known-step-2
     stream-of-requires
-    stream-place-requires
+    place-of-requires
     mul-stream
     array-copy-out-stream
     group-of-requires
-    group-place-requires
+    place-of-requires-2
     mul-carry-out
     array-copy-out-carry-out
     carry-out-requires
@@ -156,7 +156,7 @@ list-part-spec =
     array-set-from-groups
     mul-streams
     array-set-from-streams
-    add-lines
+    add-number
     letters-requires
     put-line-requires
     loop-less

@@ -2,8 +2,8 @@
 use borrow.Author.Needs.{needs}
 use mathlib.Core.Path.{_≡_, refl, sym, ap, _∙_}
 use Prim.Native.Nat.{ℕ}
-use Rattle.report.specs.declared.Answered.{Answered}
-use Rattle.report.specs.declared.Shown.the-variants.{Dash}
+use Rattle.lines.specs.declared.Answered.{Answered}
+use Rattle.lines.specs.declared.Shown.the-variants.{Dash}
 use Rattle.report.specs.Steps.{setUpAnswer}
 use Rattle.report.proofs.set_up_answer.Statement.{statement}
 use Rattle.report.proofs.set_up_answer.Tie as tie

@@ -1,7 +1,7 @@
 -- `report::stream_of` meets its contract. Assumes nothing.
 use borrow.Author.Needs.{needs}
 use mathlib.Core.Path.{_≡_, refl, sym, ap, _∙_}
-use Rattle.report.specs.Lines.{callOf}
+use Rattle.report.specs.Records.{callOf}
 use Rattle.report.specs.Steps.{streamOf}
 use Rattle.tablefile.specs.declared.Record.{Record}
 use Rattle.report.proofs.stream_of.Statement.{statement}

@@ -1,4 +1,4 @@
--- `report::put_count` meets its contract: `end`, a space, the count and the line's end stand one after the other. Assumes nothing.
+-- `lines::put_count` meets its contract: `end`, a space, the count and the line's end stand one after the other. Assumes nothing.
 use borrow.Author.Needs.{needs}
 use mathlib.Core.Path.{_≡_, refl, sym, ap, _∙_}
 use Prim.Native.Nat.{ℕ, _+_, _≤_, _<_}
@@ -7,12 +7,11 @@ use native.Mathlib.Omega.{arith}
 use mathlib.Core.List.{List, [], _∷_, _++_, append-assoc}
 use lib.ListN.{length, set, length-set}
 use Rattle.text.specs.Decimal.{decimal}
-use Rattle.report.specs.Steps.{Put}
-use Rattle.report.specs.Lines.{newline}
-use Rattle.report.specs.Listing.{endLine}
-use Rattle.report.proofs.Texts.{put-then, put-length, put-decimal, decimal-room}
-use Rattle.report.proofs.put_count.Statement.{statement}
-use Rattle.report.proofs.put_count.Tie as tie
+use Rattle.lines.specs.Steps.{Put}
+use Rattle.lines.specs.Lines.{newline, endLine}
+use Rattle.lines.proofs.Texts.{put-then, put-length, put-decimal, decimal-room}
+use Rattle.lines.proofs.put_count.Statement.{statement}
+use Rattle.lines.proofs.put_count.Tie as tie
 
 slice-write-out : tie.Need-slice-write-out
 slice-write-out c = search needs

@@ -9,16 +9,14 @@ use native.Mathlib.Omega.{arith}
 use lib.Dec.{ltb, leb}
 use lib.ListN.{length, set, length-append, length-set}
 use lib.Seq.{sets, length-sets}
-use Rattle.bridge.specs.History.{Reply}
-use Rattle.report.specs.Lines.{space, newline, column, lineOf}
-use Rattle.report.specs.Listing.{endLine}
-use Rattle.report.specs.Parts.{lineRoom, endRoom}
+use Rattle.lines.specs.Lines.{space, newline, column, lineOf, endLine}
+use Rattle.lines.specs.Places.{lineRoom, endRoom}
 use borrow.Author.Tests.{lt-ltb, le-leb}
 use Rattle.quantity.proofs.Booleans.{cond-true}
 use Rattle.text.specs.Decimal.{digit, lastDigits, fewest, digitCount, decimal}
 use Rattle.text.specs.Places.{Placed, placed}
 use Rattle.text.proofs.Stores.{decimal-length}
-use Rattle.report.specs.Steps.{mostDigits, headRoom, Put}
+use Rattle.lines.specs.Steps.{mostDigits, numberRoom, headRoom, Put}
 
 -- ---- one after the other
 
@@ -80,7 +78,7 @@ few-of-byte n h = go (ltb n 10) (ltb n 100)
     go false true = omega arith
     go false false = omega (arith, last)
 
-pub byte-short : (n : ℕ) → n < 256 → length (decimal n) ≤ 3
+pub byte-short : (n : ℕ) → n < 256 → length (decimal n) ≤ numberRoom
 byte-short n h = omega (arith, decimal-length n, few-of-byte n h)
 
 -- a decimal that was placed where 20 digits have room
@@ -94,13 +92,8 @@ decimal-room l o at next n k h e =
     omega (arith, p .ends, put-length (decimal n) p, decimal-short n)
 
 -- the same for a byte, where three have room
-pub put-byte-decimal : (l o : List ℕ) (at next n : ℕ) → n < 256 → at + 3 ≤ length l → record { next = next; bytes = o } ≡ placed l at (decimal n) → Put l at (decimal n) next o
+pub put-byte-decimal : (l o : List ℕ) (at next n : ℕ) → n < 256 → at + numberRoom ≤ length l → record { next = next; bytes = o } ≡ placed l at (decimal n) → Put l at (decimal n) next o
 put-byte-decimal l o at next n b h e = placed-put l o at next (decimal n) (omega (arith, byte-short n b)) e
-
-pub byte-room : (l o : List ℕ) (at next n k : ℕ) → n < 256 → at + (3 + k) ≤ length l → record { next = next; bytes = o } ≡ placed l at (decimal n) → next + k ≤ length o
-byte-room l o at next n k b h e =
-    let p = put-byte-decimal l o at next n b (omega arith) e in
-    omega (arith, p .ends, put-length (decimal n) p, byte-short n b)
 
 -- the last column
 pub column-short : (vs : List ℕ) → length (column vs) ≤ mostDigits
@@ -115,18 +108,18 @@ head-within n x y z w p =
 
 -- ---- lines
 
-pub line-short : (n : ℕ) (letters : List ℕ) (a : Reply) → length letters ≡ 2 → a .number < 256 → length (lineOf n letters a) ≤ lineRoom
+pub line-short : (n : ℕ) (letters : List ℕ) (number : ℕ) (values : List ℕ) → length letters ≡ 2 → number < 256 → length (lineOf n letters number values) ≤ lineRoom
 unfolding lineOf
-line-short n letters a e h =
+line-short n letters number values e h =
     omega (
       arith,
-      length-append (decimal n) (space ∷ (letters ++ (space ∷ (decimal (a .number) ++ (space ∷ (column (a .values) ++ (newline ∷ []))))))),
-      length-append letters (space ∷ (decimal (a .number) ++ (space ∷ (column (a .values) ++ (newline ∷ []))))),
-      length-append (decimal (a .number)) (space ∷ (column (a .values) ++ (newline ∷ []))),
-      length-append (column (a .values)) (newline ∷ []),
+      length-append (decimal n) (space ∷ (letters ++ (space ∷ (decimal number ++ (space ∷ (column values ++ (newline ∷ []))))))),
+      length-append letters (space ∷ (decimal number ++ (space ∷ (column values ++ (newline ∷ []))))),
+      length-append (decimal number) (space ∷ (column values ++ (newline ∷ []))),
+      length-append (column values) (newline ∷ []),
       decimal-short n,
-      byte-short (a .number) h,
-      column-short (a .values),
+      byte-short number h,
+      column-short values,
     )
 
 pub end-line-short : (n : ℕ) → length (endLine n) ≤ endRoom

@@ -1,4 +1,4 @@
--- `report::put_head` meets its contract: the number stands, and the letters behind it. Assumes nothing.
+-- `lines::put_head` meets its contract: the number stands, and the letters behind it. Assumes nothing.
 use borrow.Author.Needs.{needs}
 use mathlib.Core.Path.{_≡_, refl, sym, ap, _∙_}
 use Prim.Native.Nat.{ℕ, _+_, _≤_, _<_}
@@ -7,10 +7,10 @@ use native.Mathlib.Omega.{arith}
 use mathlib.Core.List.{List, [], _∷_, _++_}
 use lib.ListN.{length, length-set}
 use Rattle.text.specs.Decimal.{decimal}
-use Rattle.report.specs.Steps.{Put}
-use Rattle.report.proofs.Texts.{put-then, put-decimal, decimal-room}
-use Rattle.report.proofs.put_head.Statement.{statement}
-use Rattle.report.proofs.put_head.Tie as tie
+use Rattle.lines.specs.Steps.{Put}
+use Rattle.lines.proofs.Texts.{put-then, put-decimal, decimal-room}
+use Rattle.lines.proofs.put_head.Statement.{statement}
+use Rattle.lines.proofs.put_head.Tie as tie
 
 put-decimal-requires : tie.Need-put-decimal-requires
 put-decimal-requires c κs = search needs

@@ -1,4 +1,4 @@
--- `report::put_shown` meets its contract. Assumes nothing.
+-- `lines::put_shown` meets its contract. Assumes nothing.
 use borrow.Author.Needs.{needs}
 use mathlib.Core.Path.{_≡_, refl, sym, ap, _∙_}
 use Prim.Native.Nat.{ℕ, _+_, _≤_, _<_}
@@ -6,12 +6,11 @@ use native.Mathlib.Numerals.{towards-suc}
 use native.Mathlib.Omega.{arith}
 use mathlib.Core.List.{List, [], _∷_, _++_, append-assoc}
 use lib.ListN.{length, set, length-set}
-use Rattle.report.specs.Lines.{column}
-use Rattle.report.specs.Steps.{valuesOf}
-use Rattle.report.specs.declared.Shown.{Shown}
-use Rattle.report.proofs.Texts.{put-text, put-decimal}
-use Rattle.report.proofs.put_shown.Statement.{statement}
-use Rattle.report.proofs.put_shown.Tie as tie
+use Rattle.lines.specs.Lines.{valuesOf, column}
+use Rattle.lines.specs.declared.Shown.{Shown}
+use Rattle.lines.proofs.Texts.{put-text, put-decimal}
+use Rattle.lines.proofs.put_shown.Statement.{statement}
+use Rattle.lines.proofs.put_shown.Tie as tie
 
 enum-known-time : tie.Need-enum-known-time
 enum-known-time c = search needs

@@ -1,0 +1,4 @@
+pub mod Texts
+pub mod Placing
+pub mod Endings
+pub mod Promises

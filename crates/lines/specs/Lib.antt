@@ -1,0 +1,4 @@
+pub mod Lines
+pub mod Places
+pub mod Steps
+pub mod Promises
