@@ -1,8 +1,7 @@
-// Text in lent bytes: a byte, a text or a decimal number is put at a place, where it fits, and the next place comes
+// Text in lent bytes: a text or a decimal number is put at a place, where it fits, and the next place comes
 // back; and a decimal number is read from lent bytes. The programs' lines are made of these. No file and no record
 // lives here.
 ghost use mathlib.Core.Path.{_≡_};
-ghost use mathlib.Core.List.{[], _∷_};
 ghost use mathlib.Core.Bool.{Bool};
 ghost use Prim.Native.Nat.{_+_, _-_, _*_, _≤_, _<_, min};
 ghost use lib.ListN.{length};
@@ -68,17 +67,6 @@ pub fn put_decimal(out: &mut [u8], at: usize, n: u64) -> usize
     end
 }
 
-// Puts a byte at a place.
-pub fn put_byte(out: &mut [u8], at: usize, byte: u8) -> usize
-    ensures { λ r. ⌜ record { next = r; bytes = now (out .exit) } ≡ placed (now (out .entry)) at (byte ∷ []) ⌝ }
-{
-    if at < out.len() {
-        out[at] = byte;
-        return at + 1;
-    }
-    at
-}
-
 // Puts a text at a place.
 pub fn put_text(out: &mut [u8], at: usize, text: &[u8]) -> usize
     ensures { λ r. ⌜ record { next = r; bytes = now (out .exit) } ≡ placed (now (out .entry)) at (now (text .entry)) ⌝ }
@@ -96,13 +84,6 @@ pub fn put_text(out: &mut [u8], at: usize, text: &[u8]) -> usize
         i += 1;
     }
     at + i
-}
-
-// How many places a number takes in decimal.
-pub fn decimal_length(n: u64) -> usize
-    ensures { λ r. ⌜ (r ≡ length (decimal n)) × (r ≤ 20) ⌝ }
-{
-    digit_count(n)
 }
 
 fn is_digit(byte: u8) -> bool

@@ -4,6 +4,7 @@ use mathlib.Core.Path.{_≡_, refl, sym, _∙_}
 use Prim.Native.Nat.{ℕ, _+_, _-_, _≤_, _<_}
 use native.Mathlib.Omega.{arith}
 use lib.ListN.{length}
+use Rattle.quantity.specs.declared.Item.the-variants.{GroupId, StreamId}
 use Rattle.quantity.proofs.Ranges.{place-most}
 use Rattle.report.proofs.Stepping.{Going, going}
 use Rattle.report.proofs.Calls.{call-after, call-replies}
