@@ -16,14 +16,14 @@ use Rattle.quantity.proofs.Ranges.{at-most, within, place-in}
 use Rattle.records.specs.Sound.{sound, soundGroup}
 use Rattle.records.specs.Numbers.{isSetUp}
 use Rattle.shaper.specs.Numbers.{judged, refused}
-use Rattle.records.specs.SetUp.{groupSetUp, streamSetUp}
+use Rattle.setup.specs.SetUp.{groupSetUp, streamSetUp}
 use Rattle.records.specs.declared.Group.{Group}
 use Rattle.records.specs.declared.Stream.{Stream}
 use Rattle.shaper.specs.declared.Judged.{Judged}
 use Rattle.records.specs.declared.Answer.{Answer}
-use Rattle.records.specs.declared.StreamSetUp.the-variants as stream
+use Rattle.setup.specs.declared.StreamSetUp.the-variants as stream
 use Rattle.shaper.proofs.Judging.{not-set-up, unsound}
-use Rattle.records.proofs.Fresh.{group-out}
+use Rattle.setup.proofs.Fresh.{group-out}
 use Rattle.calls.proofs.Returns.{group-id-out, stream-id-out, frame-id-out, frame-id-in}
 use Rattle.bridge.specs.Tables.{noGroup, noStream, groupAt, streamAt, withGroup, withStream}
 use Rattle.calls.specs.Calls.{groupTaken, groupPlaced, streamTaken, streamPlaced, judgedAt}

@@ -11,7 +11,7 @@ use Rattle.quantity.specs.declared.Refusal.{Refusal}
 use Rattle.quantity.specs.declared.Refusal.the-variants.{Unsound, IdRange, SetUpBefore, NoStream, NoGroup, RateRange, BurstRange, ClassRange, ResidenceRange}
 use Rattle.shaper.specs.Frame.{processFrame}
 use Rattle.records.specs.Sound.{sound, soundGroup}
-use Rattle.records.specs.SetUp.{freshGroup, freshStream, groupSetUp, streamSetUp}
+use Rattle.setup.specs.SetUp.{freshGroup, freshStream, groupSetUp, streamSetUp}
 use Rattle.records.specs.Numbers.{isSetUp}
 use Rattle.shaper.specs.Numbers.{judged, refused}
 use Rattle.quantity.specs.Charge.{charged}
@@ -21,7 +21,7 @@ use Rattle.shaper.specs.declared.Judged.{Judged}
 use Rattle.records.specs.declared.Answer.{Answer}
 use Rattle.shaper.proofs.Judging.{Verdict, verdict, not-set-up}
 use Rattle.admission.proofs.Tests.{Passes}
-use Rattle.records.proofs.Fresh.{class-out, residence-out, group-done, group-out, group-unused, group-unsound, rate-out, burst-out, stream-done}
+use Rattle.setup.proofs.Fresh.{class-out, residence-out, group-done, group-out, group-unused, group-unsound, rate-out, burst-out, stream-done}
 use Rattle.bridge.specs.Tables.{noGroup, noStream, groupAt, streamAt, withGroup, withStream}
 use Rattle.calls.specs.Calls.{groupTaken, groupPlaced, streamTaken, streamPlaced, judgedAt}
 use Rattle.bridge.specs.Calls.{groupStored, groupCalled, streamStored, streamCalled, frameStored, frameCalled}

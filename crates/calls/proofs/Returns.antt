@@ -6,7 +6,7 @@ use Rattle.quantity.specs.Ranges.{inRange}
 use Rattle.quantity.specs.declared.Item.the-variants.{GroupId, StreamId}
 use Rattle.quantity.specs.declared.Refusal.the-variants.{IdRange, SetUpBefore, NoStream}
 use Rattle.records.specs.Numbers.{isSetUp}
-use Rattle.records.specs.SetUp.{groupSetUp, streamSetUp}
+use Rattle.setup.specs.SetUp.{groupSetUp, streamSetUp}
 use Rattle.records.specs.declared.Group.{Group}
 use Rattle.records.specs.declared.Stream.{Stream}
 use Rattle.shaper.specs.Numbers.{judged, refused}

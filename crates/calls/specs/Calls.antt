@@ -5,14 +5,14 @@ use mathlib.Core.Bool.{not, cond}
 use Rattle.quantity.specs.Ranges.{inRange}
 use Rattle.quantity.specs.declared.Item.the-variants.{GroupId, StreamId}
 use Rattle.quantity.specs.declared.Refusal.the-variants.{IdRange, SetUpBefore, NoStream}
-use Rattle.records.specs.SetUp.{groupSetUp, streamSetUp}
+use Rattle.setup.specs.SetUp.{groupSetUp, streamSetUp}
 use Rattle.records.specs.Numbers.{isSetUp}
 use Rattle.records.specs.declared.Group.{Group}
 use Rattle.records.specs.declared.Stream.{Stream}
-use Rattle.records.specs.declared.GroupSetUp.{GroupSetUp}
-use Rattle.records.specs.declared.GroupSetUp.the-variants as group
-use Rattle.records.specs.declared.StreamSetUp.{StreamSetUp}
-use Rattle.records.specs.declared.StreamSetUp.the-variants as stream
+use Rattle.setup.specs.declared.GroupSetUp.{GroupSetUp}
+use Rattle.setup.specs.declared.GroupSetUp.the-variants as group
+use Rattle.setup.specs.declared.StreamSetUp.{StreamSetUp}
+use Rattle.setup.specs.declared.StreamSetUp.the-variants as stream
 use Rattle.shaper.specs.Numbers.{judged, refused}
 use Rattle.shaper.specs.declared.Judged.{Judged}
 use Rattle.calls.specs.declared.PlacedGroup.{PlacedGroup}

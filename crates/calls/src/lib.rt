@@ -10,9 +10,9 @@ use quantity::in_range;
 use quantity::refusal_number;
 use records::Answer;
 use records::Group;
-use records::GroupSetUp;
 use records::Stream;
-use records::StreamSetUp;
+use setup::GroupSetUp;
+use setup::StreamSetUp;
 use shaper::Judged;
 ghost use mathlib.Core.Path.{_≡_};
 ghost use Rattle.calls.specs.Calls.{judgedAt, groupPlaced, streamPlaced};
@@ -64,7 +64,7 @@ pub fn place_group(id: u8, group: Group, class: u8, residence: Ticks) -> PlacedG
     if used {
         return kept_group(group, Refusal::SetUpBefore);
     }
-    match records::set_up_group(class, residence) {
+    match setup::set_up_group(class, residence) {
         GroupSetUp::Refused(why) => kept_group(group, why),
         GroupSetUp::Done(fresh) => PlacedGroup {
             answer: SetUp::Done,
@@ -100,7 +100,7 @@ pub fn place_stream(
     if records::is_set_up(regulator) {
         return kept_stream(stream, Refusal::SetUpBefore);
     }
-    match records::set_up_stream(in_group, group, rate, burst) {
+    match setup::set_up_stream(in_group, group, rate, burst) {
         StreamSetUp::Refused(why) => kept_stream(stream, why),
         StreamSetUp::Done(fresh) => PlacedStream {
             answer: SetUp::Done,

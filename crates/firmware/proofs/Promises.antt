@@ -10,12 +10,12 @@ use Rattle.quantity.specs.Numbers.{numberOf}
 use Rattle.quantity.specs.declared.Item.the-variants.{GroupId, StreamId}
 use Rattle.quantity.specs.declared.Refusal.the-variants.{Unsound, IdRange, SetUpBefore}
 use Rattle.records.specs.Numbers.{isSetUp}
-use Rattle.records.specs.SetUp.{groupSetUp, streamSetUp}
+use Rattle.setup.specs.SetUp.{groupSetUp, streamSetUp}
 use Rattle.records.specs.declared.Answer.the-variants.{Refused}
-use Rattle.records.specs.declared.GroupSetUp.{GroupSetUp}
-use Rattle.records.specs.declared.GroupSetUp.the-variants as group
-use Rattle.records.specs.declared.StreamSetUp.{StreamSetUp}
-use Rattle.records.specs.declared.StreamSetUp.the-variants as stream
+use Rattle.setup.specs.declared.GroupSetUp.{GroupSetUp}
+use Rattle.setup.specs.declared.GroupSetUp.the-variants as group
+use Rattle.setup.specs.declared.StreamSetUp.{StreamSetUp}
+use Rattle.setup.specs.declared.StreamSetUp.the-variants as stream
 use Rattle.calls.specs.Calls.{groupTaken, groupPlaced, streamTaken, streamPlaced}
 use Rattle.calls.specs.Numbers.{setUpNumber}
 use Rattle.calls.specs.declared.SetUp.{SetUp}

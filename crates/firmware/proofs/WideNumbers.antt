@@ -12,7 +12,7 @@ use Rattle.quantity.proofs.Booleans.{and-false}
 use Rattle.records.specs.Numbers.{isSetUp}
 use Rattle.admission.specs.Tests.{tested}
 use Rattle.shaper.specs.Numbers.{judged, refused}
-use Rattle.records.specs.SetUp.{groupSetUp, streamSetUp}
+use Rattle.setup.specs.SetUp.{groupSetUp, streamSetUp}
 use Rattle.records.specs.Sound.{sound, soundGroup}
 use Rattle.records.specs.declared.Group.{Group}
 use Rattle.records.specs.declared.Stream.{Stream}

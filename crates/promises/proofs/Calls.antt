@@ -14,7 +14,7 @@ use Rattle.quantity.proofs.Ranges.{within}
 use Rattle.shaper.specs.Frame.{burstOf, afterRelease, eligibilityTime, discarded, released, settled, processFrame}
 use Rattle.records.specs.ExactTime.{ticks}
 use Rattle.records.specs.Sound.{sound}
-use Rattle.records.specs.SetUp.{freshGroup, freshStream}
+use Rattle.setup.specs.SetUp.{freshGroup, freshStream}
 use Rattle.records.specs.Numbers.{isSetUp}
 use Rattle.quantity.specs.Charge.{charged}
 use Rattle.records.specs.declared.Group.{Group}

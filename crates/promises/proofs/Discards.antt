@@ -9,7 +9,7 @@ use lib.Dec.{eqb}
 use borrow.Author.Tests.{eq-eqb, ne-eqb}
 use Rattle.quantity.specs.Ranges.{inRange}
 use Rattle.quantity.specs.declared.Item.the-variants.{GroupId}
-use Rattle.records.specs.SetUp.{freshGroup, freshStream}
+use Rattle.setup.specs.SetUp.{freshGroup, freshStream}
 use Rattle.quantity.specs.Charge.{charged}
 use Rattle.records.specs.declared.Group.{Group}
 use Rattle.records.specs.declared.Stream.{Stream}

@@ -11,7 +11,7 @@ use Rattle.quantity.specs.Ranges.{inRange}
 use Rattle.quantity.specs.declared.Item.the-variants.{GroupId, StreamId, StreamRate}
 use Rattle.quantity.proofs.Ranges.{at-least}
 use Rattle.shaper.specs.Frame.{burstOf, afterRelease, eligibilityTime}
-use Rattle.records.specs.SetUp.{freshGroup, freshStream}
+use Rattle.setup.specs.SetUp.{freshGroup, freshStream}
 use Rattle.records.specs.Numbers.{isSetUp}
 use Rattle.admission.specs.Tests.{aboveBurst}
 use Rattle.quantity.specs.Charge.{charged}

@@ -12,7 +12,7 @@ use Rattle.quantity.specs.Ranges.{inRange}
 use Rattle.quantity.specs.declared.Item.the-variants.{GroupId, StreamId}
 use Rattle.quantity.specs.declared.Refusal.the-variants.{NoStream}
 use Rattle.shaper.specs.Frame.{eligibilityTime}
-use Rattle.records.specs.SetUp.{freshGroup, freshStream}
+use Rattle.setup.specs.SetUp.{freshGroup, freshStream}
 use Rattle.records.specs.Numbers.{isSetUp, answerNumber, answerValues}
 use Rattle.quantity.specs.Charge.{charged}
 use Rattle.records.specs.declared.Group.{Group}

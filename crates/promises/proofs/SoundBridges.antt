@@ -13,7 +13,7 @@ use Rattle.quantity.specs.declared.Item.the-variants.{GroupId, StreamId}
 use Rattle.quantity.specs.declared.Refusal.the-variants.{Unsound}
 use Rattle.shaper.specs.Frame.{eligibilityTime, discarded, released, settled, processFrame}
 use Rattle.records.specs.Sound.{sound, soundGroup}
-use Rattle.records.specs.SetUp.{freshGroup, freshStream}
+use Rattle.setup.specs.SetUp.{freshGroup, freshStream}
 use Rattle.records.specs.Numbers.{isSetUp, answerNumber}
 use Rattle.quantity.specs.Charge.{charged}
 use Rattle.records.specs.declared.Group.{Group}
@@ -22,7 +22,7 @@ use Rattle.shaper.specs.declared.Judged.{Judged}
 use Rattle.shaper.proofs.Judging.{too-late, in-time}
 use Rattle.admission.proofs.Tests.{Passes}
 use Rattle.records.proofs.Soundness.{sound-ok, group-sound}
-use Rattle.records.proofs.Fresh.{fresh-group-sound, fresh-stream-sound}
+use Rattle.setup.proofs.Fresh.{fresh-group-sound, fresh-stream-sound}
 use Rattle.shaper.proofs.Natural.{T-late, frame-kept, beside}
 use Rattle.bridge.specs.Tables.{noGroup, noStream, freshBridge, groupAt, streamAt, withGroup, withStream}
 use Rattle.bridge.specs.Calls.{groupCalled, streamCalled, frameStored, frameCalled}

@@ -8,7 +8,7 @@ use Rattle.quantity.specs.Ranges.{inRange}
 use Rattle.quantity.specs.declared.Item.the-variants.{GroupId, StreamId}
 use Rattle.quantity.proofs.Ranges.{within}
 use Rattle.shaper.specs.Frame.{burstOf, afterRelease}
-use Rattle.records.specs.SetUp.{freshGroup, freshStream}
+use Rattle.setup.specs.SetUp.{freshGroup, freshStream}
 use Rattle.records.specs.Numbers.{isSetUp}
 use Rattle.quantity.specs.Charge.{charged}
 use Rattle.records.specs.declared.Group.{Group}

@@ -2,4 +2,3 @@ pub mod Integers
 pub mod Machine
 pub mod ExactTime
 pub mod Soundness
-pub mod Fresh

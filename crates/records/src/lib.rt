@@ -1,6 +1,5 @@
-// The records of a group and of a stream: what they hold, their set-up, and what becomes of a frame by them.
-// How a frame is judged by a record is the shaper's; tables of records are the bridge's.
-mod set_up;
+// The records of a group and of a stream: what they hold, and what becomes of a frame by them. Their set-up is
+// `setup`'s, how a frame is judged by a record `shaper`'s; tables of records are `bridge`'s.
 mod sound;
 
 use quantity::Bits;
@@ -8,8 +7,6 @@ use quantity::Rate;
 use quantity::Refusal;
 use quantity::Ticks;
 use quantity::refusal_number;
-pub use set_up::set_up_group;
-pub use set_up::set_up_stream;
 pub use sound::sound_group;
 ghost use mathlib.Core.Path.{_≡_};
 ghost use Rattle.records.specs.Numbers.{isSetUp, answerNumber};
@@ -51,16 +48,6 @@ pub struct Stream {
 pub enum Answer {
     Released(Ticks),
     Discarded(Ticks),
-    Refused(Refusal),
-}
-
-pub enum GroupSetUp {
-    Done(Group),
-    Refused(Refusal),
-}
-
-pub enum StreamSetUp {
-    Done(Stream),
     Refused(Refusal),
 }
 

@@ -18,7 +18,7 @@ use Rattle.shaper.specs.Frame.{processFrame, settled, discarded, released, elig
 use Rattle.shaper.specs.Numbers.{afterTests, judged}
 use Rattle.admission.specs.Tests.{aboveBurst, tested}
 use Rattle.records.specs.Numbers.{answerNumber, answerValues}
-use Rattle.records.specs.SetUp.{groupSetUp, streamSetUp, freshStream, freshGroup}
+use Rattle.setup.specs.SetUp.{groupSetUp, streamSetUp, freshStream, freshGroup}
 use Rattle.records.specs.Sound.{sound, soundGroup, soundRegulator}
 use Rattle.tablefile.specs.BigEndian.{number}
 use Rattle.reader.specs.File.{answers, contentsFrom, onwards}

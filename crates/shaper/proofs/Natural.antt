@@ -19,7 +19,7 @@ use Rattle.records.specs.Sound.{soundGroup, soundRegulator, sound}
 use Rattle.shaper.specs.Numbers.{judged}
 use Rattle.admission.specs.Tests.{aboveBurst}
 use Rattle.quantity.specs.Charge.{charged}
-use Rattle.records.specs.SetUp.{freshStream}
+use Rattle.setup.specs.SetUp.{freshStream}
 use Rattle.records.specs.Steps.{shortfall}
 use Rattle.records.specs.declared.Moment.{Moment}
 use Rattle.records.specs.declared.Group.{Group}

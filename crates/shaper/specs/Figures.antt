@@ -9,7 +9,7 @@ use Rattle.quantity.specs.Charge.{chargedBits}
 use Rattle.records.specs.ExactTime.{exactly, momentOf, roundedUp, E-first}
 use Rattle.shaper.specs.Frame.{S, F, E-after, earliest, afterRelease, eligibilityTime, discarded, released, settled, processFrame}
 use Rattle.records.specs.Sound.{soundGroup, soundRegulator, sound}
-use Rattle.records.specs.SetUp.{freshGroup, freshStream}
+use Rattle.setup.specs.SetUp.{freshGroup, freshStream}
 use Rattle.shaper.specs.Numbers.{afterTests, judged}
 use Rattle.admission.specs.Tests.{aboveBurst, tested}
 use Rattle.records.specs.Numbers.{answerNumber, answerValues}

@@ -1,24 +1,33 @@
-// Set-up of one record: what is out of range is refused, and buckets start full.
-use crate::Group;
-use crate::GroupSetUp;
-use crate::Moment;
-use crate::Regulator;
-use crate::Stream;
-use crate::StreamSetUp;
-use crate::sound::sound_group;
+// Set-up of one record: what is out of range is refused, and buckets start full. That an id is out of range or already
+// set up is for the calls by id to say.
 use quantity::Bits;
 use quantity::Item;
 use quantity::Rate;
 use quantity::Refusal;
 use quantity::Ticks;
 use quantity::in_range;
+use records::Group;
+use records::Moment;
+use records::Regulator;
+use records::Stream;
+use records::sound_group;
 ghost use mathlib.Core.Path.{_≡_};
 ghost use mathlib.Core.Bool.{true};
 ghost use Prim.Native.Nat.{_+_, _*_, _<_, _^_};
 ghost use lib.IntN.{pos, negℤ};
 ghost use Rattle.quantity.specs.Ranges.{inRange};
 ghost use Rattle.records.specs.ExactTime.{momentOf};
-ghost use Rattle.records.specs.SetUp.{freshStream, groupSetUp, streamSetUp};
+ghost use Rattle.setup.specs.SetUp.{freshStream, groupSetUp, streamSetUp};
+
+pub enum GroupSetUp {
+    Done(Group),
+    Refused(Refusal),
+}
+
+pub enum StreamSetUp {
+    Done(Stream),
+    Refused(Refusal),
+}
 
 // A group of a class and a residence limit.
 pub fn set_up_group(class: u8, residence: Ticks) -> GroupSetUp

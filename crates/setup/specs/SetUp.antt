@@ -5,15 +5,15 @@ use mathlib.Core.Bool.{true, not, cond, _&&_}
 use Rattle.quantity.specs.Ranges.{inRange}
 use Rattle.quantity.specs.declared.Item.the-variants.{GroupId, Class, StreamRate, Burst, Residence}
 use Rattle.quantity.specs.declared.Refusal.the-variants.{Unsound, NoGroup, RateRange, BurstRange, ResidenceRange, ClassRange}
 use Rattle.records.specs.ExactTime.{momentOf, E-first, ticks}
 use Rattle.records.specs.Sound.{soundGroup}
 use Rattle.records.specs.declared.Group.{Group}
 use Rattle.records.specs.declared.Stream.{Stream}
 use Rattle.records.specs.declared.Regulator.the-variants.{Bucket}
-use Rattle.records.specs.declared.GroupSetUp.{GroupSetUp}
-use Rattle.records.specs.declared.GroupSetUp.the-variants as group
-use Rattle.records.specs.declared.StreamSetUp.{StreamSetUp}
-use Rattle.records.specs.declared.StreamSetUp.the-variants as stream
+use Rattle.setup.specs.declared.GroupSetUp.{GroupSetUp}
+use Rattle.setup.specs.declared.GroupSetUp.the-variants as group
+use Rattle.setup.specs.declared.StreamSetUp.{StreamSetUp}
+use Rattle.setup.specs.declared.StreamSetUp.the-variants as stream
 
 -- a group first: G 0, last arrival 0, nothing discarded
 unfoldable pub freshGroup : ℕ → ℕ → Group

@@ -1,4 +1,4 @@
--- `records::set_up::set_up_stream` meets its contract: each return has the tests that led there. Assumes nothing.
+-- `setup::set_up_stream` meets its contract: each return has the tests that led there. Assumes nothing.
 use borrow.Author.Needs.{needs}
 use borrow.Author.Tests.{not-true, not-false}
 use mathlib.Core.Path.{_≡_, sym, ap, _∙_}
@@ -6,12 +6,12 @@ use mathlib.Core.Bool.{true}
 use Rattle.quantity.specs.Ranges.{inRange}
 use Rattle.quantity.specs.declared.Item.the-variants.{GroupId, StreamRate, Burst}
 use Rattle.quantity.proofs.Booleans.{refuted, confirmed}
 use Rattle.records.specs.Sound.{soundGroup}
 use Rattle.records.specs.declared.Stream.{Stream}
-use Rattle.records.specs.declared.StreamSetUp.the-variants.{Done}
-use Rattle.records.proofs.Fresh.{group-out, group-unused, group-unsound, rate-out, burst-out, stream-done}
-use Rattle.records.proofs.set_up.set_up_stream.Statement.{statement}
-use Rattle.records.proofs.set_up.set_up_stream.Tie as tie
+use Rattle.setup.specs.declared.StreamSetUp.the-variants.{Done}
+use Rattle.setup.proofs.Fresh.{group-out, group-unused, group-unsound, rate-out, burst-out, stream-done}
+use Rattle.setup.proofs.set_up_stream.Statement.{statement}
+use Rattle.setup.proofs.set_up_stream.Tie as tie
 
 in-range-requires : tie.Need-in-range-requires
 in-range-requires c κs = search needs

@@ -1,14 +1,14 @@
--- `records::set_up::before_zero` meets its contract: whole ticks, or one tick borrowed. Assumes nothing.
+-- `setup::before_zero` meets its contract: whole ticks, or one tick borrowed. Assumes nothing.
 use borrow.Author.Needs.{needs}
 use mathlib.Core.Path.{sym, ap, _∙_}
 use Prim.Native.Nat.{ℕ}
 use native.Mathlib.Nat.{add-zero}
 use native.Mathlib.Omega.{arith}
 use lib.IntN.{pos, negℤ}
 use Rattle.records.proofs.Machine.{returned}
 use Rattle.records.proofs.ExactTime.{before-zero}
-use Rattle.records.proofs.set_up.before_zero.Statement.{statement}
-use Rattle.records.proofs.set_up.before_zero.Tie as tie
+use Rattle.setup.proofs.before_zero.Statement.{statement}
+use Rattle.setup.proofs.before_zero.Tie as tie
 
 lowered-requires : tie.Need-lowered-requires
 lowered-requires c κs = search needs

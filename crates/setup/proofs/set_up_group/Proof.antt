@@ -1,11 +1,11 @@
--- `records::set_up::set_up_group` meets its contract. Assumes nothing.
+-- `setup::set_up_group` meets its contract. Assumes nothing.
 use borrow.Author.Needs.{needs}
 use mathlib.Core.Path.{sym}
 use Rattle.quantity.proofs.Booleans.{refuted, confirmed}
-use Rattle.records.specs.SetUp.{freshGroup}
-use Rattle.records.proofs.Fresh.{class-out, residence-out, group-done}
-use Rattle.records.proofs.set_up.set_up_group.Statement.{statement}
-use Rattle.records.proofs.set_up.set_up_group.Tie as tie
+use Rattle.setup.specs.SetUp.{freshGroup}
+use Rattle.setup.proofs.Fresh.{class-out, residence-out, group-done}
+use Rattle.setup.proofs.set_up_group.Statement.{statement}
+use Rattle.setup.proofs.set_up_group.Tie as tie
 
 in-range-requires : tie.Need-in-range-requires
 in-range-requires c κs = search needs

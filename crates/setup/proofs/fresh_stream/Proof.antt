@@ -1,4 +1,4 @@
--- `records::set_up::fresh_stream` meets its contract. Assumes nothing.
+-- `setup::fresh_stream` meets its contract. Assumes nothing.
 use borrow.Author.Needs.{needs}
 use mathlib.Core.Path.{sym, ap, _∙_}
 use Prim.Native.Nat.{ℕ}
@@ -7,12 +7,12 @@ use native.Mathlib.Omega.{arith}
 use lib.IntN.{pos, negℤ}
 use Rattle.quantity.specs.declared.Item.the-variants.{StreamRate, Burst}
 use Rattle.quantity.proofs.Ranges.{at-least, at-most}
 use Rattle.records.specs.ExactTime.{bitTime, momentOf, E-first}
-use Rattle.records.specs.SetUp.{freshStream}
+use Rattle.setup.specs.SetUp.{freshStream}
 use Rattle.records.specs.declared.Moment.{Moment}
 use Rattle.records.specs.declared.Regulator.the-variants.{Bucket}
-use Rattle.records.proofs.set_up.fresh_stream.Statement.{statement}
-use Rattle.records.proofs.set_up.fresh_stream.Tie as tie
+use Rattle.setup.proofs.fresh_stream.Statement.{statement}
+use Rattle.setup.proofs.fresh_stream.Tie as tie
 
 mul-parts : tie.Need-mul-parts
 mul-parts c = omega (arith, at-most Burst (c .before .args .burst .0) (c .before .pre .1))

@@ -1,8 +1,8 @@
--- `records::set_up::lowered` meets its contract: the machine's difference is the opposite in ℤ. Assumes nothing.
+-- `setup::lowered` meets its contract: the machine's difference is the opposite in ℤ. Assumes nothing.
 use borrow.Author.Needs.{needs}
 use Rattle.records.proofs.Machine.{drop-fits, drop-is}
-use Rattle.records.proofs.set_up.lowered.Statement.{statement}
-use Rattle.records.proofs.set_up.lowered.Tie as tie
+use Rattle.setup.proofs.lowered.Statement.{statement}
+use Rattle.setup.proofs.lowered.Tie as tie
 
 cast-result : tie.Need-cast-result
 cast-result c = search needs

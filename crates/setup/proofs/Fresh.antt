@@ -9,16 +9,16 @@ use Rattle.quantity.specs.declared.Item.the-variants.{GroupId, Class, StreamRat
 use Rattle.quantity.specs.declared.Refusal.the-variants.{Unsound, NoGroup, RateRange, BurstRange, ResidenceRange, ClassRange}
 use Rattle.quantity.proofs.Booleans.{and-false}
 use Rattle.quantity.proofs.Ranges.{at-least, at-most}
 use Rattle.records.specs.ExactTime.{bitTime, exactly, momentOf, orZero, E-first}
 use Rattle.records.specs.Sound.{soundGroup, sound}
-use Rattle.records.specs.SetUp.{freshGroup, freshStream, groupSetUp, streamSetUp}
+use Rattle.setup.specs.SetUp.{freshGroup, freshStream, groupSetUp, streamSetUp}
 use Rattle.records.specs.Steps.{shortfall}
 use Rattle.records.specs.declared.Group.{Group}
-use Rattle.records.specs.declared.GroupSetUp.the-variants as group
-use Rattle.records.specs.declared.StreamSetUp.the-variants as stream
+use Rattle.setup.specs.declared.GroupSetUp.the-variants as group
+use Rattle.setup.specs.declared.StreamSetUp.the-variants as stream
 use Rattle.records.proofs.Integers.{opposite-above, opposite-below}
 use Rattle.records.proofs.ExactTime.{exactly-of, part-of}
 use Rattle.records.proofs.Soundness.{GroupOk, group-ok, group-sound, bucket-sound, sound-of}
 
 -- ---- a group
 module _ (c M : ℕ) where
