@@ -2,12 +2,9 @@
 // examples of source document 000, figures 1 and 3, in our units. Each line says what was tried and the numbers that
 // came; the file `stdout` beside it has them as the documents do.
 use bridge::Bridge;
-use bridge::Framed;
 use calls::set_up_number;
-use classes::AfterEnter;
 use classes::Entered;
 use event::stop_number;
-use places::AfterPick;
 use places::Entry;
 use places::Picked;
 use places::Waiting;
@@ -18,6 +15,7 @@ use quantity::refusal_number;
 use records::Answer;
 use records::answer_number;
 use tablefile::Record;
+ghost use Prim.Native.Nat.{_≤_};
 
 const RESIDENCE: u64 = 224_000;
 
@@ -40,15 +38,13 @@ const LONG_RESIDENCE: u64 = 1_000_000;
 
 fn say(what: &[u8], n: u64) {
     io::write_all(1, what);
-    io::write_all(1, b" ");
     io::print_decimal(1, n);
     io::write_all(1, b"\n");
 }
 
 // ---- answers as numbers
 
-fn framed_time(after: Framed) -> u64 {
-    let answer = after.answer;
+fn framed_time(answer: Answer) -> u64 {
     match answer {
         Answer::Released(t) => t.0,
         Answer::Discarded(t) => t.0,
@@ -56,8 +52,7 @@ fn framed_time(after: Framed) -> u64 {
     }
 }
 
-fn entered_number(after: AfterEnter) -> u64 {
-    let answer = after.answer;
+fn entered_number(answer: Entered) -> u64 {
     match answer {
         Entered::Done => 0,
         Entered::Refused(why) => refusal_number(why) as u64,
@@ -65,8 +60,7 @@ fn entered_number(after: AfterEnter) -> u64 {
 }
 
 // The handle of the entry that leaves; the number where none does.
-fn picked_number(after: AfterPick) -> u64 {
-    let answer = after.answer;
+fn picked_number(answer: Picked) -> u64 {
     match answer {
         Picked::Leaves { class: _, entry } => entry.handle as u64,
         Picked::Nothing => 2,
@@ -80,8 +74,13 @@ fn with_group(residence: u64) -> Bridge {
     bridge::set_up_group(bridge::fresh(), 0, 6, Ticks(residence)).bridge
 }
 
+// One bucket more of group 0.
+fn and_bucket(tables: Bridge, id: u8, rate: u64, bits: u64) -> Bridge {
+    bridge::set_up_stream(tables, id, 0, Rate(rate), Bits(bits)).bridge
+}
+
 fn with_stream(residence: u64) -> Bridge {
-    bridge::set_up_stream(with_group(residence), 0, 0, Rate(9_000_000), Bits(1_344)).bridge
+    and_bucket(with_group(residence), 0, 9_000_000, 1_344)
 }
 
 fn after_frame(tables: Bridge, arrival: u64) -> Bridge {
@@ -141,10 +140,8 @@ fn filled(n: u32) -> Waiting {
 
 // One more entry.
 fn try_entry_after(what: &[u8], n: u32) {
-    say(
-        what,
-        entered_number(waiting::enter(filled(n), 3, entry(n, 5))),
-    );
+    let answer = waiting::enter(filled(n), 3, entry(n, 5)).answer;
+    say(what, entered_number(answer));
 }
 
 // Handles 7 and 8 with equal times.
@@ -167,7 +164,8 @@ fn overfull() -> Waiting {
 }
 
 fn try_pick(what: &[u8], places: Waiting, moment: u64) {
-    say(what, picked_number(waiting::pick(places, Ticks(moment))));
+    let answer = waiting::pick(places, Ticks(moment)).answer;
+    say(what, picked_number(answer));
 }
 
 // ---- the table file
@@ -183,66 +181,45 @@ fn try_short_part() {
     let mut part = [0u8; 3];
     let written = writer::write(Record::GroupDefault { group: 0, class: 0 }, &mut part);
     say(
-        b"three bytes for a GD:",
+        b"three bytes for a GD: ",
         tablefile::written_number(written) as u64,
     );
 }
 
 // ---- runs
 
-// Two frames at 0 against a line, with so many places for picks.
-fn run_number(octets: &[u16], rate: u64, free: u64, budget: u64, picked: &mut [u32]) -> u64 {
+// Two frames at 0 against a line: so many lengths for them, and so many places for picks.
+fn try_run(what: &[u8], lengths: usize, places: usize, rate: u64, free: u64, budget: u64)
+    requires { ⌜ (lengths ≤ 3) × (places ≤ 2) ⌝ }
+{
+    let octets = [64u16; 3];
     let mut answers = [0u8; 2];
+    let mut picked = [0u32; 2];
     let mut moments = [0u64; 2];
     let stop = line::run(
         with_stream(RESIDENCE),
         waiting::empty(),
         &[0; 2],
         &[0; 2],
-        octets,
+        &octets[..lengths],
         0,
         Rate(rate),
         Ticks(free),
         budget,
         &mut answers,
-        picked,
+        &mut picked[..places],
         &mut moments,
     ).stop;
-    stop_number(stop) as u64
-}
-
-fn try_run(what: &[u8], rate: u64, free: u64, budget: u64) {
-    let mut picked = [0u32; 2];
-    say(what, run_number(&[64; 2], rate, free, budget, &mut picked));
-}
-
-fn try_one_place() {
-    let mut picked = [0u32; 1];
-    say(
-        b"one place for picks:",
-        run_number(&[64; 2], GIGABIT, 0, 9, &mut picked),
-    );
-}
-
-fn try_unequal_lists() {
-    let mut picked = [0u32; 2];
-    say(
-        b"lists of unequal length:",
-        run_number(&[64; 3], GIGABIT, 0, 9, &mut picked),
-    );
+    say(what, stop_number(stop) as u64);
 }
 
 // ---- source document 000
 
-// One bucket more of group 0.
-fn and_bucket(tables: Bridge, id: u8, rate: u64, bits: u64) -> Bridge {
-    bridge::set_up_stream(tables, id, 0, Rate(rate), Bits(bits)).bridge
-}
-
 // A frame, and the time that it gets.
 fn step(tables: Bridge, what: &[u8], id: u8, octets: u16, arrival: u64) -> Bridge {
     let after = bridge::frame(tables, id, octets, Ticks(arrival));
-    say(what, framed_time(after));
+    let answer = after.answer;
+    say(what, framed_time(answer));
     after.bridge
 }
 
@@ -250,11 +227,11 @@ fn step(tables: Bridge, what: &[u8], id: u8, octets: u16, arrival: u64) -> Bridg
 fn figure_1() {
     let mut tables = with_group(LONG_RESIDENCE);
     tables = and_bucket(tables, 0, TOKEN_RATE, THREE_TOKENS);
-    tables = step(tables, b"figure 1, A at 1000:", 0, 180, 1_000);
-    tables = step(tables, b"figure 1, B at 2000:", 0, 180, 2_000);
-    tables = step(tables, b"figure 1, C at 3000:", 0, 280, 3_000);
-    tables = step(tables, b"figure 1, D at 9000:", 0, 180, 9_000);
-    step(tables, b"figure 1, E at 9000:", 0, 180, 9_000);
+    tables = step(tables, b"figure 1, A at 1000: ", 0, 180, 1_000);
+    tables = step(tables, b"figure 1, B at 2000: ", 0, 180, 2_000);
+    tables = step(tables, b"figure 1, C at 3000: ", 0, 280, 3_000);
+    tables = step(tables, b"figure 1, D at 9000: ", 0, 180, 9_000);
+    step(tables, b"figure 1, E at 9000: ", 0, 180, 9_000);
 }
 
 // Figure 3: two buckets of two tokens in one group, the first at half the rate.
@@ -262,40 +239,40 @@ fn figure_3() {
     let mut tables = with_group(LONG_RESIDENCE);
     tables = and_bucket(tables, 0, HALF_RATE, TWO_TOKENS);
     tables = and_bucket(tables, 1, TOKEN_RATE, TWO_TOKENS);
-    tables = step(tables, b"figure 3, A at 2000:", 0, 180, 2_000);
-    tables = step(tables, b"figure 3, X at 3000:", 1, 80, 3_000);
-    tables = step(tables, b"figure 3, B at 4000:", 0, 180, 4_000);
-    step(tables, b"figure 3, Y at 5000:", 1, 80, 5_000);
+    tables = step(tables, b"figure 3, A at 2000: ", 0, 180, 2_000);
+    tables = step(tables, b"figure 3, X at 3000: ", 1, 80, 3_000);
+    tables = step(tables, b"figure 3, B at 4000: ", 0, 180, 4_000);
+    step(tables, b"figure 3, Y at 5000: ", 1, 80, 5_000);
 }
 
 // ---- all that is tried
 
 fn frames() {
     let tables = with_stream(RESIDENCE);
-    try_frame(b"released:", tables, 64, 0);
-    try_frame(b"discarded:", before_discard(), 64, 0);
+    try_frame(b"released: ", tables, 64, 0);
+    try_frame(b"discarded: ", before_discard(), 64, 0);
     try_frame(
-        b"a class of 8 in the group's record:",
+        b"a class of 8 in the group's record: ",
         with_class_8(),
         64,
         0,
     );
     try_frame(
-        b"a stream that is not set up:",
+        b"a stream that is not set up: ",
         with_group(RESIDENCE),
         64,
         0,
     );
-    try_frame(b"2,001 octets:", tables, 2_001, 0);
-    try_frame(b"above the burst:", tables, 149, 0);
+    try_frame(b"2,001 octets: ", tables, 2_001, 0);
+    try_frame(b"above the burst: ", tables, 149, 0);
     try_frame(
-        b"arrival after its limit:",
+        b"arrival after its limit: ",
         tables,
         64,
         4_000_000_000_000_000_001,
     );
     try_frame(
-        b"arrival before the last:",
+        b"arrival before the last: ",
         after_frame(tables, 1_000),
         64,
         999,
@@ -303,47 +280,49 @@ fn frames() {
 }
 
 fn set_ups() {
-    try_group(b"group 16:", 16, 6, 0);
-    try_group(b"group 0 again:", 0, 6, 0);
-    try_stream(b"a stream in group 1:", 1, 9_000_000, 1_344);
-    try_stream(b"rate 999:", 0, 999, 1_344);
-    try_stream(b"burst 0:", 0, 9_000_000, 0);
-    try_group(b"residence above its limit:", 1, 6, 10_000_000_001);
-    try_group(b"class 8:", 1, 8, 0);
+    try_group(b"group 16: ", 16, 6, 0);
+    try_group(b"group 0 again: ", 0, 6, 0);
+    try_stream(b"a stream in group 1: ", 1, 9_000_000, 1_344);
+    try_stream(b"rate 999: ", 0, 999, 1_344);
+    try_stream(b"burst 0: ", 0, 9_000_000, 0);
+    try_group(b"residence above its limit: ", 1, 6, 10_000_000_001);
+    try_group(b"class 8: ", 1, 8, 0);
 }
 
 fn queues() {
-    try_entry_after(b"32nd entry of a class:", 31);
-    try_entry_after(b"33rd entry of a class:", 32);
+    try_entry_after(b"32nd entry of a class: ", 31);
+    try_entry_after(b"33rd entry of a class: ", 32);
     try_pick(
-        b"handles 7, 8 with equal times, first:",
+        b"handles 7, 8 with equal times, first: ",
         seven_and_eight(),
         5,
     );
-    try_pick(b"handles 7, 8 with equal times, second:", only_eight(), 5);
-    try_pick(b"nothing eligible:", seven_and_eight(), 4);
-    try_pick(b"a class with 33 entries:", overfull(), 5);
+    try_pick(b"handles 7, 8 with equal times, second: ", only_eight(), 5);
+    try_pick(b"nothing eligible: ", seven_and_eight(), 4);
+    try_pick(b"a class with 33 entries: ", overfull(), 5);
 }
 
 fn files() {
-    try_read(b"no byte left:", b"");
-    try_read(b"unknown mark:", b"XY");
-    try_read(b"one byte left:", b"G");
+    try_read(b"no byte left: ", b"");
+    try_read(b"unknown mark: ", b"XY");
+    try_read(b"one byte left: ", b"G");
     try_short_part();
 }
 
 fn runs() {
-    try_run(b"a run to its end:", GIGABIT, 0, 9);
-    try_run(b"a budget of 3 events:", GIGABIT, 0, 3);
-    try_one_place();
+    try_run(b"a run to its end: ", 2, 2, GIGABIT, 0, 9);
+    try_run(b"a budget of 3 events: ", 2, 2, GIGABIT, 0, 3);
+    try_run(b"one place for picks: ", 2, 1, GIGABIT, 0, 9);
     try_run(
-        b"a pick after 4*10^18:",
+        b"a pick after 4*10^18: ",
+        2,
+        2,
         GIGABIT,
         4_000_000_000_000_000_001,
         9,
     );
-    try_unequal_lists();
-    try_run(b"line rate 0:", 0, 0, 9);
+    try_run(b"lists of unequal length: ", 3, 2, GIGABIT, 0, 9);
+    try_run(b"line rate 0: ", 2, 2, 0, 0, 9);
 }
 
 fn main() {

@@ -85,11 +85,11 @@ fn say(line: &[u8]) {
 }
 
 // `record N: WHAT NUMBER`
-fn say_record(record: u64, what: &[u8], number: u8) {
+fn say_record(record: u64, what: &[u8], why: Refusal) {
     say(b"record ");
     io::print_decimal(STDERR_FILENO, record);
     say(what);
-    io::print_decimal(STDERR_FILENO, number as u64);
+    io::print_decimal(STDERR_FILENO, quantity::refusal_number(why) as u64);
     say(b"\n");
 }
 
@@ -109,13 +109,9 @@ fn argument(i: usize) -> Numeral {
 fn after_part(why: End, records: u64) -> Next {
     match why {
         End::NothingLeft => Next::Refill,
-        End::Unreadable(number) => after_unreadable(number, records),
-        End::NotSetUp(number) => {
-            say_record(
-                records,
-                b": set-up refused, ",
-                quantity::refusal_number(number),
-            );
+        End::Unreadable(why) => after_unreadable(why, records),
+        End::NotSetUp(why) => {
+            say_record(records, b": set-up refused, ", why);
             Next::GoOn
         }
         End::ListsFull => {
@@ -134,12 +130,8 @@ fn after_unreadable(why: Refusal, records: u64) -> Next {
 }
 
 fn say_unreadable(why: Refusal, records: u64) {
-    let number = quantity::refusal_number(why);
-    say_record(
-        std::num::wrapping_add_u64(records, 1),
-        b": unreadable, ",
-        number,
-    );
+    let record = std::num::wrapping_add_u64(records, 1);
+    say_record(record, b": unreadable, ", why);
 }
 
 // Moves the bytes from a place up to an end to the front.
@@ -428,19 +420,24 @@ fn free_moment(arguments: usize) -> Numeral {
     argument(2)
 }
 
+// Replays with the numbers that the arguments are.
+fn replay_with(rate: Numeral, free: Numeral) {
+    let Numeral::Is(rate) = rate else {
+        say(b"replay: the line rate is no number\n");
+        return;
+    };
+    let Numeral::Is(free) = free else {
+        say(b"replay: line-free is no number\n");
+        return;
+    };
+    replay(Rate(rate), Ticks(free));
+}
+
 fn main() {
     let count = os::arg_count();
     if count < 2 || count > 3 {
         say(b"usage: replay LINE-RATE [LINE-FREE] < TABLE\n");
         return;
     }
-    let Numeral::Is(rate) = argument(1) else {
-        say(b"replay: the line rate is no number\n");
-        return;
-    };
-    let Numeral::Is(free) = free_moment(count) else {
-        say(b"replay: line-free is no number\n");
-        return;
-    };
-    replay(Rate(rate), Ticks(free));
+    replay_with(argument(1), free_moment(count));
 }
