@@ -412,14 +412,6 @@ fn replay(rate: Rate, free: Ticks) {
     }
 }
 
-// The moment that the line is free from.
-fn free_moment(arguments: usize) -> Numeral {
-    if arguments < 3 {
-        return Numeral::Is(0);
-    }
-    argument(2)
-}
-
 // Replays with the numbers that the arguments are.
 fn replay_with(rate: Numeral, free: Numeral) {
     let Numeral::Is(rate) = rate else {
@@ -433,11 +425,11 @@ fn replay_with(rate: Numeral, free: Numeral) {
     replay(Rate(rate), Ticks(free));
 }
 
+// The line is free from 0 on where no moment is given.
 fn main() {
-    let count = os::arg_count();
-    if count < 2 || count > 3 {
-        say(b"usage: replay LINE-RATE [LINE-FREE] < TABLE\n");
-        return;
+    match os::arg_count() {
+        2 => replay_with(argument(1), Numeral::Is(0)),
+        3 => replay_with(argument(1), argument(2)),
+        _ => say(b"usage: replay LINE-RATE [LINE-FREE] < TABLE\n"),
     }
-    replay_with(argument(1), free_moment(count));
 }
