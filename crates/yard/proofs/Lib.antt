@@ -1,3 +1,4 @@
 pub mod Turns
+pub mod Preparing
 pub mod Parts
 pub mod Promises

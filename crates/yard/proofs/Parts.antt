@@ -19,17 +19,16 @@ use Rattle.tablefile.specs.declared.Record.the-variants as rec
 use Rattle.tablefile.specs.declared.Reading.{Reading}
 use Rattle.tablefile.specs.declared.Reading.the-variants.{Found, NothingLeft, Refused}
 use Rattle.reader.proofs.OneRecord.{Front, empty, cut, strange, whole, front, found-in-longer}
-use Rattle.bridge.specs.Calls.{groupCalled, streamCalled}
 use Rattle.bridge.specs.declared.Bridge.{Bridge}
 use Rattle.calls.specs.declared.SetUp.{SetUp}
 use Rattle.calls.specs.declared.SetUp.the-variants as set-up
 use Rattle.yard.specs.declared.End.{End}
 use Rattle.yard.specs.declared.End.the-variants as end
 use Rattle.yard.specs.declared.Task.{Task}
-use Rattle.yard.specs.declared.Task.the-variants.{Ends, Group, Stream, Frame}
-use Rattle.yard.specs.Gathering.{State, Outcome, ended, taskOf, taskFor, roomIn, taskAt, setUpTaken, afterSetUp, setUp, frameTaken, onward, gatherFrom}
+use Rattle.yard.specs.declared.Task.the-variants.{Ends, Sets, Frame}
+use Rattle.yard.specs.Gathering.{State, Outcome, ended, taskOf, taskFor, roomIn, taskAt, called, setUpTaken, afterSetUp, setUp, frameTaken, onward, gatherFrom}
 use Rattle.yard.specs.Promises.{WantsMore, nothing-left, cut-short, moved, after}
-use Rattle.yard.proofs.Turns.{Ahead, ends, group, stream, frame, task-ahead, unfolds}
+use Rattle.yard.proofs.Turns.{Ahead, ends, sets, frame, task-ahead, unfolds}
 
 -- ---- further bytes in front
 
@@ -41,8 +40,7 @@ moved-reading n (Refused why) = Refused why
 
 moved-task : ℕ → Task → Task
 moved-task n (Ends why) = Ends why
-moved-task n (Group i c M next) = Group i c M (n + next)
-moved-task n (Stream i k r u next) = Stream i k r u (n + next)
+moved-task n (Sets w next) = Sets w (n + next)
 moved-task n (Frame i o A next) = Frame i o A (n + next)
 
 fields-moved : (n : ℕ) (k : Kind) (l : List ℕ) (p : ℕ) → readFields k l (n + p) ≡ moved-reading n (readFields k l p)
@@ -106,11 +104,8 @@ module _ (before bytes : List ℕ) (m : ℕ) where
       → onward (moved n m s) (moved-task n t) f ≡ after n m (onward s t g)
   unfolding onward moved-task setUp after ended moved setUpTaken frameTaken
   onward-moved s (ends why) f g h = refl
-  onward-moved s (group i c M next a b) f g h =
-      let x = groupCalled (s .bridge) i c (M .0) in
-      ap (λ (y : State). afterSetUp (x .answer) y f) (taken-moved s next (x .bridge)) ∙ after-moved (x .answer) (setUpTaken s next (x .bridge)) f g (h (setUpTaken s next (x .bridge)) a b)
-  onward-moved s (stream i k r u next a b) f g h =
-      let x = streamCalled (s .bridge) i k (r .0) u in
+  onward-moved s (sets w next a b) f g h =
+      let x = called (s .bridge) w in
       ap (λ (y : State). afterSetUp (x .answer) y f) (taken-moved s next (x .bridge)) ∙ after-moved (x .answer) (setUpTaken s next (x .bridge)) f g (h (setUpTaken s next (x .bridge)) a b)
   onward-moved s (frame i o A next a b) f g h = ap f (frame-moved s next i o (A .0)) ∙ h (frameTaken s next i o (A .0)) a b
 
@@ -222,8 +217,7 @@ module _ (part rest : List ℕ) (bytes : AreBytes part) where
       → Continues (onward s t (gatherFrom (part ++ rest))) (onward s t (gatherFrom part))
   unfolding onward setUp setUpTaken frameTaken Settled
   onward-continues s i (ends why) closed h = ended-continues s why i (λ w. closed why refl w)
-  onward-continues s i (group j c M next a b) closed h = let x = groupCalled (s .bridge) j c (M .0) in after-continues (x .answer) (setUpTaken s next (x .bridge)) b (h (setUpTaken s next (x .bridge)) a b)
-  onward-continues s i (stream j k r u next a b) closed h = let x = streamCalled (s .bridge) j k (r .0) u in after-continues (x .answer) (setUpTaken s next (x .bridge)) b (h (setUpTaken s next (x .bridge)) a b)
+  onward-continues s i (sets v next a b) closed h = let x = called (s .bridge) v in after-continues (x .answer) (setUpTaken s next (x .bridge)) b (h (setUpTaken s next (x .bridge)) a b)
   onward-continues s i (frame j o A next a b) closed h = h (frameTaken s next j o (A .0)) a b
 
   by-fate : {t : Task} (s : State) → s .at ≤ length part → Fate s t → Ahead (s .at) (length part) t → ((x : State) → s .at < x .at → x .at ≤ length part → Continues (gatherFrom (part ++ rest) x) (gatherFrom part x))

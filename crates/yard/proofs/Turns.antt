@@ -20,27 +20,18 @@ use Rattle.tablefile.specs.declared.Reading.the-variants as reading
 use Rattle.tablefile.proofs.Fields.{mark-width}
 use Rattle.reader.proofs.Marks.{none-left}
 use Rattle.reader.proofs.OneRecord.{Front, empty, cut, strange, whole, front}
-use Rattle.quantity.specs.Ranges.{placeOf}
-use Rattle.quantity.specs.declared.Item.the-variants.{GroupId, StreamId}
 use Rattle.bridge.specs.Calls.{groupCalled, streamCalled}
 use Rattle.bridge.specs.declared.Bridge.{Bridge}
 use Rattle.bridge.specs.declared.BridgeSetUp.{BridgeSetUp}
 use Rattle.calls.specs.declared.SetUp.{SetUp}
 use Rattle.calls.specs.declared.SetUp.the-variants.{Done, Refused}
-use Rattle.quantity.proofs.Ranges.{place-most}
 use Rattle.yard.specs.declared.End.{End}
 use Rattle.yard.specs.declared.End.the-variants.{NothingLeft, Unreadable, NotSetUp, ListsFull}
 use Rattle.yard.specs.declared.Task.{Task}
-use Rattle.yard.specs.declared.Task.the-variants.{Ends, Group, Stream, Frame}
-use Rattle.yard.specs.Gathering.{State, Outcome, ended, hasRoom, taskOf, taskFor, roomIn, taskAt, setUpTaken, afterSetUp, setUp, frameTaken, onward, gatherFor, gatherFrom}
-
--- ---- the places that the code finds
-
-pub group-found : (p i : ℕ) → p ≡ placeOf GroupId i → p < 16
-group-found p i e = omega (arith, place-most GroupId i)
-
-pub stream-found : (p i : ℕ) → p ≡ placeOf StreamId i → p < 64
-stream-found p i e = omega (arith, place-most StreamId i)
+use Rattle.yard.specs.declared.Task.the-variants.{Ends, Sets, Frame}
+use Rattle.yard.specs.declared.Wanted.{Wanted}
+use Rattle.yard.specs.Steps.{taskAfter}
+use Rattle.yard.specs.Gathering.{State, Outcome, ended, hasRoom, taskOf, taskFor, roomIn, taskAt, called, setUpTaken, afterSetUp, setUp, frameTaken, onward, gatherFor, gatherFrom}
 
 -- ---- what the code tests
 
@@ -65,18 +56,26 @@ pub frame-goes : (room : Bool) (x : Record) (i o : ℕ) (A : Ticks) (next : ℕ)
 unfolding taskOf
 frame-goes room x i o A next e h = rw (e, h)
 
+-- a set-up that was refused leaves no other task
+pub after-done : (a : SetUp) (t u : Task) → a ≡ Done → t ≡ u → t ≡ taskAfter a u
+unfolding taskAfter
+after-done a t u e f = rw e f
+
+pub after-refused : (a : SetUp) (why : Refusal) → a ≡ Refused why → (u : Task) → Ends (NotSetUp why) ≡ taskAfter a u
+unfolding taskAfter
+after-refused a why e u = rw e
+
 -- ---- a task leads on to a later place, and not beyond the bytes
 pub data Ahead (p n : ℕ) : Task → Type 0 where
   ends : (why : End) → Ahead p n (Ends why)
-  group : (i c : ℕ) (M : Ticks) (next : ℕ) → p < next → next ≤ n → Ahead p n (Group i c M next)
-  stream : (i k : ℕ) (r : Rate) (u next : ℕ) → p < next → next ≤ n → Ahead p n (Stream i k r u next)
+  sets : (w : Wanted) (next : ℕ) → p < next → next ≤ n → Ahead p n (Sets w next)
   frame : (i o : ℕ) (A : Ticks) (next : ℕ) → p < next → next ≤ n → Ahead p n (Frame i o A next)
 
 record-ahead : (p n : ℕ) (room : Bool) (r : Record) (next : ℕ) → p < next → next ≤ n → Ahead p n (taskOf room r next)
 unfolding taskOf
-record-ahead p n room (rec.Group i c M) next a b = group i c M next a b
-record-ahead p n room (rec.GroupDefault i c) next a b = group i c _ next a b
-record-ahead p n room (rec.Stream i k r u) next a b = stream i k r u next a b
+record-ahead p n room (rec.Group i c M) next a b = sets _ next a b
+record-ahead p n room (rec.GroupDefault i c) next a b = sets _ next a b
+record-ahead p n room (rec.Stream i k r u) next a b = sets _ next a b
 record-ahead p n true (rec.Frame i o A) next a b = frame i o A next a b
 record-ahead p n false (rec.Frame i o A) next a b = ends ListsFull
 
@@ -93,11 +92,13 @@ pub task-ahead : (bytes : List ℕ) (s : State) → Ahead (s .at) (length bytes)
 unfolding taskAt readAt
 task-ahead bytes s = reading-ahead bytes (s .at) (roomIn s) (front (drop (s .at) bytes) (s .at))
 
-group-ahead : {p n i c : ℕ} {M : Ticks} {next : ℕ} → Ahead p n (Group i c M next) → (p < next) × (next ≤ n)
-group-ahead (group i c M next a b) = (a, b)
+after-ahead : {p n : ℕ} (a : SetUp) {t : Task} → Ahead p n t → Ahead p n (taskAfter a t)
+unfolding taskAfter
+after-ahead Done h = h
+after-ahead (Refused why) h = ends (NotSetUp why)
 
-stream-ahead : {p n i k : ℕ} {r : Rate} {u next : ℕ} → Ahead p n (Stream i k r u next) → (p < next) × (next ≤ n)
-stream-ahead (stream i k r u next a b) = (a, b)
+sets-ahead : {p n : ℕ} {w : Wanted} {next : ℕ} → Ahead p n (Sets w next) → (p < next) × (next ≤ n)
+sets-ahead (sets w next a b) = (a, b)
 
 frame-ahead : {p n i o : ℕ} {A : Ticks} {next : ℕ} → Ahead p n (Frame i o A next) → (p < next) × (next ≤ n)
 frame-ahead (frame i o A next a b) = (a, b)
@@ -114,8 +115,7 @@ after-same (Refused why) x f g e = refl
 later : {n : ℕ} {t : Task} (s : State) → Ahead (s .at) n t → (f g : State → Outcome) → ((x : State) → s .at < x .at → f x ≡ g x) → onward s t f ≡ onward s t g
 unfolding onward setUp setUpTaken frameTaken
 later s (ends why) f g h = refl
-later s (group i c M next a b) f g h = let x = groupCalled (s .bridge) i c (M .0) in after-same (x .answer) _ f g (h (setUpTaken s next (x .bridge)) a)
-later s (stream i k r u next a b) f g h = let x = streamCalled (s .bridge) i k (r .0) u in after-same (x .answer) _ f g (h (setUpTaken s next (x .bridge)) a)
+later s (sets w next a b) f g h = let x = called (s .bridge) w in after-same (x .answer) _ f g (h (setUpTaken s next (x .bridge)) a)
 later s (frame i o A next a b) f g h = h (frameTaken s next i o (A .0)) a
 
 module _ (bytes : List ℕ) where
@@ -130,82 +130,27 @@ module _ (bytes : List ℕ) where
       let n = length bytes in
       later s (task-ahead bytes s) (gatherFor n bytes) (gatherFor (suc n) bytes) (λ x l. enough n x (omega arith))
 
-  pub step : (s : State) (t : Task) → t ≡ taskAt bytes s → gatherFrom bytes s ≡ onward s t (gatherFrom bytes)
-  step s t e = unfolds s ∙ ap (λ (x : Task). onward s x (gatherFrom bytes)) (sym e)
+  -- after a set-up with this answer the gathering ends, or goes on with the next task
+  goes-on : (a : SetUp) (s : State) → onward s (taskAfter a (taskAt bytes s)) (gatherFrom bytes) ≡ afterSetUp a s (gatherFrom bytes)
+  unfolding onward taskAfter afterSetUp
+  goes-on Done s = sym (unfolds s)
+  goes-on (Refused why) s = refl
 
--- ---- what the loop keeps
-pub record Gathers (bytes : List ℕ) (s₀ s : State) : Type 0 where
-  pub same : gatherFrom bytes s ≡ gatherFrom bytes s₀
+-- ---- what the loop keeps, where a is what the set-up answered that was just made
+pub record Gathers (bytes : List ℕ) (s₀ : State) (a : SetUp) (s : State) : Type 0 where
+  pub same : afterSetUp a s (gatherFrom bytes) ≡ gatherFrom bytes s₀
   pub within : s .at ≤ length bytes
   pub few : s .records ≤ s .at
   pub arrivals-long : length (s .arrivals) ≡ length (s₀ .arrivals)
   pub ids-long : length (s .ids) ≡ length (s₀ .ids)
   pub octets-long : length (s .octets) ≡ length (s₀ .octets)
 
-pub starts : (bytes : List ℕ) (s : State) → s .at ≡ 0 → s .records ≡ 0 → Gathers bytes s s
+pub starts : (bytes : List ℕ) (s : State) → s .at ≡ 0 → s .records ≡ 0 → Gathers bytes s Done s
+unfolding afterSetUp
 starts bytes s e f = record { same = refl; within = omega arith; few = omega arith; arrivals-long = refl; ids-long = refl; octets-long = refl }
 
--- the task that the code found is the one of the definition
-pub task-is : (bytes : List ℕ) (s : State) (room : Bool) (t : Task) → room ≡ hasRoom (s .count) (length (s .arrivals)) (length (s .ids)) (length (s .octets)) → t ≡ taskFor room (readAt bytes (s .at)) → t ≡ taskAt bytes s
-unfolding taskAt roomIn
-task-is bytes s room t e f = f ∙ ap (λ (x : Bool). taskFor x (readAt bytes (s .at))) e
+-- ---- a frame is a task only where there is room for it, and no set-up was refused
 
-module _ (bytes : List ℕ) (s₀ s : State) (G : Gathers bytes s₀ s) (t : Task) (is : t ≡ taskAt bytes s) where
-  pub turn-ends : (why : End) → t ≡ Ends why → ended why s ≡ gatherFrom bytes s₀
-  unfolding onward
-  turn-ends why e = sym (step bytes s t is ∙ ap (λ (x : Task). onward s x (gatherFrom bytes)) e) ∙ G .same
-
-  -- ---- a set-up
-  pub group-within : (i c : ℕ) (M : Ticks) (next : ℕ) → t ≡ Group i c M next → (s .at < next) × (next ≤ length bytes)
-  group-within i c M next e = group-ahead (subst (Ahead (s .at) (length bytes)) (sym is ∙ e) (task-ahead bytes s))
-
-  pub stream-within : (i k : ℕ) (r : Rate) (u next : ℕ) → t ≡ Stream i k r u next → (s .at < next) × (next ≤ length bytes)
-  stream-within i k r u next e = stream-ahead (subst (Ahead (s .at) (length bytes)) (sym is ∙ e) (task-ahead bytes s))
-
-  group-step : (i c : ℕ) (M : Ticks) (next : ℕ) → t ≡ Group i c M next → (x : BridgeSetUp) → x ≡ groupCalled (s .bridge) i c (M .0) → gatherFrom bytes s ≡ setUp s next x (gatherFrom bytes)
-  unfolding onward
-  group-step i c M next e x f =
-      step bytes s t is
-      ∙ ap (λ (y : Task). onward s y (gatherFrom bytes)) e
-      ∙ ap (λ (y : BridgeSetUp). setUp s next y (gatherFrom bytes)) (sym f)
-
-  stream-step : (i k : ℕ) (r : Rate) (u next : ℕ) → t ≡ Stream i k r u next → (x : BridgeSetUp) → x ≡ streamCalled (s .bridge) i k (r .0) u → gatherFrom bytes s ≡ setUp s next x (gatherFrom bytes)
-  unfolding onward
-  stream-step i k r u next e x f =
-      step bytes s t is
-      ∙ ap (λ (y : Task). onward s y (gatherFrom bytes)) e
-      ∙ ap (λ (y : BridgeSetUp). setUp s next y (gatherFrom bytes)) (sym f)
-
-  refused-after : (next : ℕ) (x : BridgeSetUp) (why : Refusal) → gatherFrom bytes s ≡ setUp s next x (gatherFrom bytes) → x .answer ≡ Refused why → ended (NotSetUp why) (setUpTaken s next (x .bridge)) ≡ gatherFrom bytes s₀
-  unfolding setUp afterSetUp
-  refused-after next x why e f = sym (e ∙ ap (λ (a : SetUp). afterSetUp a (setUpTaken s next (x .bridge)) (gatherFrom bytes)) f) ∙ G .same
-
-  done-after : (next : ℕ) (x : BridgeSetUp) → gatherFrom bytes s ≡ setUp s next x (gatherFrom bytes) → x .answer ≡ Done → (s .at < next) × (next ≤ length bytes) → Gathers bytes s₀ (setUpTaken s next (x .bridge))
-  unfolding setUp afterSetUp setUpTaken
-  done-after next x e f w = record {
-    same = sym (e ∙ ap (λ (a : SetUp). afterSetUp a (setUpTaken s next (x .bridge)) (gatherFrom bytes)) f) ∙ G .same;
-    within = w .1;
-    few = omega (arith, G .few, w .0);
-    arrivals-long = G .arrivals-long;
-    ids-long = G .ids-long;
-    octets-long = G .octets-long;
-  }
-
-  pub group-refused : (i c : ℕ) (M : Ticks) (next : ℕ) → t ≡ Group i c M next → (x : BridgeSetUp) → x ≡ groupCalled (s .bridge) i c (M .0) → (why : Refusal) → x .answer ≡ Refused why → ended (NotSetUp why) (setUpTaken s next (x .bridge)) ≡ gatherFrom bytes s₀
-  group-refused i c M next e x f why a = refused-after next x why (group-step i c M next e x f) a
-
-  pub group-done : (i c : ℕ) (M : Ticks) (next : ℕ) → t ≡ Group i c M next → (x : BridgeSetUp) → x ≡ groupCalled (s .bridge) i c (M .0) → x .answer ≡ Done → Gathers bytes s₀ (setUpTaken s next (x .bridge))
-  group-done i c M next e x f a = done-after next x (group-step i c M next e x f) a (group-within i c M next e)
-
-  pub stream-refused : (i k : ℕ) (r : Rate) (u next : ℕ) → t ≡ Stream i k r u next → (x : BridgeSetUp) → x ≡ streamCalled (s .bridge) i k (r .0) u → (why : Refusal) → x .answer ≡ Refused why → ended (NotSetUp why) (setUpTaken s next (x .bridge)) ≡ gatherFrom bytes s₀
-  stream-refused i k r u next e x f why a = refused-after next x why (stream-step i k r u next e x f) a
-
-  pub stream-done : (i k : ℕ) (r : Rate) (u next : ℕ) → t ≡ Stream i k r u next → (x : BridgeSetUp) → x ≡ streamCalled (s .bridge) i k (r .0) u → x .answer ≡ Done → Gathers bytes s₀ (setUpTaken s next (x .bridge))
-  stream-done i k r u next e x f a = done-after next x (stream-step i k r u next e x f) a (stream-within i k r u next e)
-
--- ---- a frame
-
--- it is a task only where there is room for it
 room-of : (room : Bool) (x : Record) (here i o : ℕ) (A : Ticks) (next : ℕ) → taskOf room x here ≡ Frame i o A next → room ≡ true
 unfolding taskOf
 room-of true x here i o A next e = refl
@@ -219,6 +164,11 @@ unfolding taskFor
 room-for room (reading.Found r here) i o A next e = room-of room r here i o A next e
 room-for room reading.NothingLeft i o A next e = let z : _≡_ {A = ℕ} 0 1 = cc in absurd (omega arith)
 room-for room (reading.Refused why) i o A next e = let z : _≡_ {A = ℕ} 0 1 = cc in absurd (omega arith)
+
+none-refused : (a : SetUp) (t : Task) (i o : ℕ) (A : Ticks) (next : ℕ) → taskAfter a t ≡ Frame i o A next → (a ≡ Done) × (t ≡ Frame i o A next)
+unfolding taskAfter
+none-refused Done t i o A next e = (refl, e)
+none-refused (Refused why) t i o A next e = let z : _≡_ {A = ℕ} 0 1 = cc in absurd (omega arith)
 
 -- a place that each list has
 pub record Room (s : State) : Type 0 where
@@ -236,23 +186,64 @@ has-room s e =
     let y = both (ltb (s .count) b) (ltb (s .count) c) (x .1) in
     record { arrivals = ltb-true (s .count) a (x .0); ids = ltb-true (s .count) b (y .0); octets = ltb-true (s .count) c (y .1) }
 
-module _ (bytes : List ℕ) (s₀ s : State) (G : Gathers bytes s₀ s) (t : Task) (is : t ≡ taskAt bytes s) (i o : ℕ) (A : Ticks) (next : ℕ) (e : t ≡ Frame i o A next) where
-  pub frame-room : Room s
-  unfolding taskAt
-  frame-room = has-room s (room-for (roomIn s) (readAt bytes (s .at)) i o A next (sym is ∙ e))
+-- ---- a turn: the task that the code found is the one of the definition
 
-  pub frame-within : (s .at < next) × (next ≤ length bytes)
-  frame-within = frame-ahead (subst (Ahead (s .at) (length bytes)) (sym is ∙ e) (task-ahead bytes s))
+module _ (bytes : List ℕ) (s₀ : State) (a : SetUp) (s : State) (G : Gathers bytes s₀ a s) (room : Bool) (e : room ≡ hasRoom (s .count) (length (s .arrivals)) (length (s .ids)) (length (s .octets))) (x : Reading) (h : x ≡ readAt bytes (s .at)) (t : Task) (f : t ≡ taskAfter a (taskFor room x)) where
+  task-is : t ≡ taskAfter a (taskAt bytes s)
+  unfolding taskAt roomIn
+  task-is = f ∙ ap (λ (y : Reading). taskAfter a (taskFor room y)) h ∙ ap (λ (b : Bool). taskAfter a (taskFor b (readAt bytes (s .at)))) e
 
-  pub frame-taken : Gathers bytes s₀ (frameTaken s next i o (A .0))
-  unfolding onward frameTaken
-  frame-taken =
-      let w = frame-within in
-      record {
-        same = sym (step bytes s t is ∙ ap (λ (x : Task). onward s x (gatherFrom bytes)) e) ∙ G .same;
-        within = w .1;
-        few = omega (arith, G .few, w .0);
-        arrivals-long = simp length-set (G .arrivals-long);
-        ids-long = simp length-set (G .ids-long);
-        octets-long = simp length-set (G .octets-long);
-      }
+  done : onward s t (gatherFrom bytes) ≡ gatherFrom bytes s₀
+  done = ap (λ (x : Task). onward s x (gatherFrom bytes)) task-is ∙ goes-on bytes a s ∙ G .same
+
+  ahead : Ahead (s .at) (length bytes) t
+  ahead = subst (Ahead (s .at) (length bytes)) (sym task-is) (after-ahead a (task-ahead bytes s))
+
+  pub turn-ends : (why : End) → t ≡ Ends why → ended why s ≡ gatherFrom bytes s₀
+  unfolding onward
+  turn-ends why g = sym (ap (λ (x : Task). onward s x (gatherFrom bytes)) g) ∙ done
+
+  -- a set-up
+  module _ (w : Wanted) (next : ℕ) (g : t ≡ Sets w next) where
+    pub sets-within : (s .at < next) × (next ≤ length bytes)
+    sets-within = sets-ahead (subst (Ahead (s .at) (length bytes)) g ahead)
+
+    pub turn-sets : (c : BridgeSetUp) → c ≡ called (s .bridge) w → Gathers bytes s₀ (c .answer) (setUpTaken s next (c .bridge))
+    unfolding onward setUp setUpTaken
+    turn-sets c k = record {
+      same =
+          ap (λ (y : BridgeSetUp). setUp s next y (gatherFrom bytes)) k
+          ∙ sym (ap (λ (y : Task). onward s y (gatherFrom bytes)) g)
+          ∙ done;
+      within = sets-within .1;
+      few = omega (arith, G .few, sets-within .0);
+      arrivals-long = G .arrivals-long;
+      ids-long = G .ids-long;
+      octets-long = G .octets-long;
+    }
+
+  -- a frame
+  module _ (i o : ℕ) (A : Ticks) (next : ℕ) (g : t ≡ Frame i o A next) where
+    pub frame-within : (s .at < next) × (next ≤ length bytes)
+    frame-within = frame-ahead (subst (Ahead (s .at) (length bytes)) g ahead)
+
+    alone : (a ≡ Done) × (taskAt bytes s ≡ Frame i o A next)
+    alone = none-refused a (taskAt bytes s) i o A next (sym task-is ∙ g)
+
+    pub frame-room : Room s
+    unfolding taskAt
+    frame-room = has-room s (room-for (roomIn s) (readAt bytes (s .at)) i o A next (alone .1))
+
+    pub turn-takes : Gathers bytes s₀ a (frameTaken s next i o (A .0))
+    unfolding onward frameTaken afterSetUp
+    turn-takes = record {
+      same =
+          ap (λ (x : SetUp). afterSetUp x (frameTaken s next i o (A .0)) (gatherFrom bytes)) (alone .0)
+          ∙ sym (ap (λ (x : Task). onward s x (gatherFrom bytes)) g)
+          ∙ done;
+      within = frame-within .1;
+      few = omega (arith, G .few, frame-within .0);
+      arrivals-long = simp length-set (G .arrivals-long);
+      ids-long = simp length-set (G .ids-long);
+      octets-long = simp length-set (G .octets-long);
+    }

@@ -20,7 +20,9 @@ use Rattle.calls.specs.declared.SetUp.the-variants.{Done, Refused}
 use Rattle.yard.specs.declared.End.{End}
 use Rattle.yard.specs.declared.End.the-variants.{NothingLeft, Unreadable, NotSetUp, ListsFull}
 use Rattle.yard.specs.declared.Task.{Task}
-use Rattle.yard.specs.declared.Task.the-variants.{Ends, Group, Stream, Frame}
+use Rattle.yard.specs.declared.Task.the-variants.{Ends, Sets, Frame}
+use Rattle.yard.specs.declared.Wanted.{Wanted}
+use Rattle.yard.specs.declared.Wanted.the-variants.{Group, Stream}
 use Rattle.yard.specs.declared.Gathered.{Gathered}
 
 -- ---- how a gathering stands, and what it gives
@@ -59,9 +61,9 @@ hasRoom count arrivals ids octets = ltb count arrivals && (ltb count ids && ltb 
 
 -- what a record asks for; a group without a residence has the default, and a frame wants room in the lists
 unfoldable pub taskOf : Bool → Record → ℕ → Task
-taskOf room (rec.Group i c M) next = Group i c M next
-taskOf room (rec.GroupDefault i c) next = Group i c (record { 0 = defaultResidence }) next
-taskOf room (rec.Stream i k r u) next = Stream i k r u next
+taskOf room (rec.Group i c M) next = Sets (Group i c M) next
+taskOf room (rec.GroupDefault i c) next = Sets (Group i c (record { 0 = defaultResidence })) next
+taskOf room (rec.Stream i k r u) next = Sets (Stream i k r u) next
 taskOf room (rec.Frame i n A) next = cond room (Frame i n A next) (Ends ListsFull)
 
 -- by the reader's answer: 5, 24 and 25 end the gathering
@@ -77,6 +79,11 @@ unfoldable pub taskAt : List ℕ → State → Task
 taskAt bytes s = taskFor (roomIn s) (readAt bytes (s .at))
 
 -- ---- what becomes of it
+
+-- the set-up that is wanted, as a call on a bridge
+unfoldable pub called : Bridge → Wanted → BridgeSetUp
+called b (Group i c M) = groupCalled b i c (M .0)
+called b (Stream i k r u) = streamCalled b i k (r .0) u
 
 -- a record that is a set-up, with the bridge after it
 unfoldable pub setUpTaken : State → ℕ → Bridge → State
@@ -105,8 +112,7 @@ frameTaken s next i n A = record {
 -- a task done in the state s, with what follows it
 unfoldable pub onward : State → Task → (State → Outcome) → Outcome
 onward s (Ends why) more = ended why s
-onward s (Group i c M next) more = setUp s next (groupCalled (s .bridge) i c (M .0)) more
-onward s (Stream i k r u next) more = setUp s next (streamCalled (s .bridge) i k (r .0) u) more
+onward s (Sets w next) more = setUp s next (called (s .bridge) w) more
 onward s (Frame i n A next) more = more (frameTaken s next i n (A .0))
 
 -- ---- the gathering

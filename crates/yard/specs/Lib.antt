@@ -1,2 +1,3 @@
 pub mod Gathering
+pub mod Steps
 pub mod Promises

@@ -4,9 +4,12 @@
 use bridge::Bridge;
 use calls::SetUp;
 use quantity::Bits;
+use quantity::Item;
 use quantity::Rate;
 use quantity::Refusal;
 use quantity::Ticks;
+use records::Group;
+use records::Stream;
 use tablefile::Reading;
 use tablefile::Record;
 ghost use mathlib.Core.Path.{_≡_};
@@ -15,6 +18,7 @@ ghost use Prim.Native.Nat.{_+_, _≤_};
 ghost use lib.ListN.{length};
 ghost use Rattle.reader.specs.Reader.{readAt};
 ghost use Rattle.yard.specs.Gathering.{hasRoom, taskOf, taskFor, gatherFrom, begun};
+ghost use Rattle.yard.specs.Steps.{taskAfter, streamOf, groupOf, preparedBy};
 
 // Why a gathering ended.
 pub enum End {
@@ -28,20 +32,26 @@ pub enum End {
     ListsFull,
 }
 
-// What a record asks for, and the place after it. Public for definitions of other crates.
-pub enum Task {
-    Ends(End),
+// A set-up that a record asks for. Public, with the two types that follow, for definitions of other crates.
+pub enum Wanted {
     Group {
         group: u8,
         class: u8,
         residence: Ticks,
-        next: usize,
     },
     Stream {
         stream: u8,
         group: u8,
         rate: Rate,
         burst: u32,
+    },
+}
+
+// What a record asks for, and the place after it.
+pub enum Task {
+    Ends(End),
+    Sets {
+        wanted: Wanted,
         next: usize,
     },
     Frame {
@@ -50,6 +60,13 @@ pub enum Task {
         arrival: Ticks,
         next: usize,
     },
+}
+
+// What a set-up answers, and the stream and the group that it looked at, as it leaves them.
+pub struct Prepared {
+    pub answer: SetUp,
+    pub stream: Stream,
+    pub group: Group,
 }
 
 // What a gathering gives beside the lists.
@@ -86,16 +103,20 @@ fn task_of(given: Record, next: usize, room: bool) -> Task
             group,
             class,
             residence,
-        } => Task::Group {
-            group,
-            class,
-            residence,
+        } => Task::Sets {
+            wanted: Wanted::Group {
+                group,
+                class,
+                residence,
+            },
             next,
         },
-        Record::GroupDefault { group, class } => Task::Group {
-            group,
-            class,
-            residence: Ticks(tablefile::DEFAULT_RESIDENCE),
+        Record::GroupDefault { group, class } => Task::Sets {
+            wanted: Wanted::Group {
+                group,
+                class,
+                residence: Ticks(tablefile::DEFAULT_RESIDENCE),
+            },
             next,
         },
         Record::Stream {
@@ -103,11 +124,13 @@ fn task_of(given: Record, next: usize, room: bool) -> Task
             group,
             rate,
             burst,
-        } => Task::Stream {
-            stream,
-            group,
-            rate,
-            burst,
+        } => Task::Sets {
+            wanted: Wanted::Stream {
+                stream,
+                group,
+                rate,
+                burst,
+            },
             next,
         },
         Record::Frame {
@@ -128,14 +151,74 @@ fn task_of(given: Record, next: usize, room: bool) -> Task
     }
 }
 
-// What the bytes at a place ask for.
-fn next_task(bytes: &[u8], at: usize, room: bool) -> Task
-    ensures { λ r. ⌜ r ≡ taskFor room (readAt (now (bytes .entry)) at) ⌝ }
+// What is to be done where the reader gave this, after a record whose set-up, if it was one, had this answer.
+fn next_task(reading: Reading, room: bool, answer: SetUp) -> Task
+    ensures { λ r. ⌜ r ≡ taskAfter answer (taskFor room reading) ⌝ }
 {
-    match reader::read(bytes, at) {
+    if let SetUp::Refused(why) = answer {
+        return Task::Ends(End::NotSetUp(why));
+    }
+    match reading {
         Reading::Found { record, next } => task_of(record, next, room),
         Reading::NothingLeft => Task::Ends(End::NothingLeft),
         Reading::Refused(why) => Task::Ends(End::Unreadable(why)),
+    }
+}
+
+// The place of the stream that a set-up looks at. A group's looks at none, and leaves stream 0.
+fn stream_at(wanted: Wanted) -> usize
+    ensures { λ r. ⌜ r ≡ streamOf wanted ⌝ }
+{
+    match wanted {
+        Wanted::Group { .. } => 0,
+        Wanted::Stream { stream, .. } => quantity::place_of(Item::StreamId, stream),
+    }
+}
+
+// The place of the group that it looks at.
+fn group_at(wanted: Wanted) -> usize
+    ensures { λ r. ⌜ r ≡ groupOf wanted ⌝ }
+{
+    match wanted {
+        Wanted::Group { group, .. } => quantity::place_of(Item::GroupId, group),
+        Wanted::Stream { group, .. } => quantity::place_of(Item::GroupId, group),
+    }
+}
+
+// Makes a set-up's call on the stream and the group that it looks at.
+fn prepare(wanted: Wanted, mut stream: Stream, mut group: Group) -> Prepared
+    ensures { λ r. ⌜ r ≡ preparedBy wanted stream group ⌝ }
+{
+    match wanted {
+        Wanted::Group {
+            group: id,
+            class,
+            residence,
+        } => {
+            let placed = calls::place_group(id, group, class, residence);
+            group = placed.group;
+            let answer = placed.answer;
+            Prepared {
+                answer,
+                stream,
+                group,
+            }
+        }
+        Wanted::Stream {
+            stream: id,
+            group: of,
+            rate,
+            burst,
+        } => {
+            let placed = calls::place_stream(id, stream, of, group, rate, Bits(burst as u64));
+            stream = placed.stream;
+            let answer = placed.answer;
+            Prepared {
+                answer,
+                stream,
+                group,
+            }
+        }
     }
 }
 
@@ -147,7 +230,7 @@ pub fn gather_part(
     arrivals: &mut [u64],
     ids: &mut [u8],
     octets: &mut [u16],
-    count: usize,
+    mut count: usize,
 ) -> Gathered
     ensures { λ r. ⌜ (record { gathered = r; arrivals = now (arrivals .exit); ids = now (ids .exit); octets = now (octets .exit) }
         ≡ gatherFrom (now (bytes .entry)) (begun bridge (now (arrivals .entry)) (now (ids .entry)) (now (octets .entry)) count))
@@ -155,77 +238,35 @@ pub fn gather_part(
 {
     let mut groups = bridge.groups;
     let mut streams = bridge.streams;
-    let mut taken = count;
     let mut at: usize = 0;
     let mut records: usize = 0;
+    // What the set-up answered that was just made; else none was refused.
+    let mut answer = SetUp::Done;
     loop {
-        let room = has_room(taken, arrivals.len(), ids.len(), octets.len());
-        let task = next_task(bytes, at, room);
+        let room = has_room(count, arrivals.len(), ids.len(), octets.len());
+        let reading = reader::read(bytes, at);
+        let task = next_task(reading, room, answer);
         match task {
             Task::Ends(why) => {
                 return Gathered {
                     why,
                     at,
                     records,
-                    count: taken,
+                    count,
                     bridge: Bridge { groups, streams },
                 };
             }
-            Task::Group {
-                group,
-                class,
-                residence,
-                next,
-            } => {
-                let place = calls::group_place(group);
-                let placed = calls::place_group(group, groups[place], class, residence);
-                let after = placed.group;
-                let answer = placed.answer;
-                groups[place] = after;
+            Task::Sets { wanted, next } => {
+                let place = stream_at(wanted);
+                let of = group_at(wanted);
+                let prepared = prepare(wanted, streams[place], groups[of]);
+                let stream = prepared.stream;
+                let group = prepared.group;
+                streams[place] = stream;
+                groups[of] = group;
+                answer = prepared.answer;
                 at = next;
                 records += 1;
-                if let SetUp::Refused(why) = answer {
-                    return Gathered {
-                        why: End::NotSetUp(why),
-                        at,
-                        records,
-                        count: taken,
-                        bridge: Bridge { groups, streams },
-                    };
-                }
-                continue;
-            }
-            Task::Stream {
-                stream,
-                group,
-                rate,
-                burst,
-                next,
-            } => {
-                let place = calls::stream_place(stream);
-                let of = calls::group_place(group);
-                let placed = calls::place_stream(
-                    stream,
-                    streams[place],
-                    group,
-                    groups[of],
-                    rate,
-                    Bits(burst as u64),
-                );
-                let after = placed.stream;
-                let answer = placed.answer;
-                streams[place] = after;
-                at = next;
-                records += 1;
-                if let SetUp::Refused(why) = answer {
-                    return Gathered {
-                        why: End::NotSetUp(why),
-                        at,
-                        records,
-                        count: taken,
-                        bridge: Bridge { groups, streams },
-                    };
-                }
                 continue;
             }
             Task::Frame {
@@ -234,10 +275,10 @@ pub fn gather_part(
                 arrival,
                 next,
             } => {
-                arrivals[taken] = arrival.0;
-                ids[taken] = stream;
-                octets[taken] = length;
-                taken += 1;
+                arrivals[count] = arrival.0;
+                ids[count] = stream;
+                octets[count] = length;
+                count += 1;
                 at = next;
                 records += 1;
                 continue;

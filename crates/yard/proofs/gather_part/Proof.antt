@@ -1,13 +1,13 @@
 -- `yard::gather_part` meets its contract: each turn of the loop is a record of the definition. Assumes nothing.
 use borrow.Author.Needs.{needs}
-use mathlib.Core.Path.{refl}
+use mathlib.Core.Path.{_≡_, refl}
 use mathlib.Core.List.{List}
-use Prim.Native.Nat.{ℕ, _-_, _*_, _<_}
+use Prim.Native.Nat.{ℕ, _-_, _*_, _<_, _≤_}
 use native.Mathlib.Omega.{arith}
 use lib.ListN.{length}
-use Rattle.bridge.proofs.Tables.{group-call, stream-call}
-use Rattle.yard.specs.Gathering.{ended, begun, setUpTaken, frameTaken}
-use Rattle.yard.proofs.Turns.{group-found, stream-found, Gathers, starts, task-is, turn-ends, group-within, group-refused, group-done, stream-within, stream-refused, stream-done, frame-room, frame-within, frame-taken}
+use Rattle.yard.specs.Gathering.{State, ended, begun, setUpTaken, frameTaken}
+use Rattle.yard.proofs.Turns.{Gathers, starts, Room, turn-ends, sets-within, turn-sets, frame-room, frame-within, turn-takes}
+use Rattle.yard.proofs.Preparing.{stream-found, group-found, call-is}
 use Rattle.yard.proofs.gather_part.Statement.{statement}
 use Rattle.yard.proofs.gather_part.Tie as tie
 
@@ -19,335 +19,187 @@ pub record Short (bytes arrivals ids octets : List ℕ) : Type 0 where
   pub octets-short : length octets * 2 < 18_446_744_073_709_551_616
 
 abbrev Inv-loop : tie.InvT-loop
-Inv-loop bytes arrivals₀ ids₀ octets₀ count groups₀ streams₀ taken₀ at₀ records₀ arrivals ids octets groups streams taken at records =
+Inv-loop bytes arrivals₀ ids₀ octets₀ count₀ groups₀ streams₀ at₀ records₀ answer₀ arrivals ids octets count groups streams at records answer =
     Gathers bytes
-    (record { at = at₀; records = records₀; count = taken₀; bridge = record { groups = groups₀; streams = streams₀ }; arrivals = arrivals₀; ids = ids₀; octets = octets₀ })
-    (record { at = at; records = records; count = taken; bridge = record { groups = groups; streams = streams }; arrivals = arrivals; ids = ids; octets = octets })
+    (record { at = at₀; records = records₀; count = count₀; bridge = record { groups = groups₀; streams = streams₀ }; arrivals = arrivals₀; ids = ids₀; octets = octets₀ })
+    answer
+    (record { at = at; records = records; count = count; bridge = record { groups = groups; streams = streams }; arrivals = arrivals; ids = ids; octets = octets })
     × Short bytes arrivals₀ ids₀ octets₀
 
 abbrev μ-loop : tie.MeasureT-loop
-μ-loop bytes arrivals₀ ids₀ octets₀ count groups₀ streams₀ taken₀ at₀ records₀ arrivals ids octets groups streams taken at records =
+μ-loop bytes arrivals₀ ids₀ octets₀ count₀ groups₀ streams₀ at₀ records₀ answer₀ arrivals ids octets count groups streams at records answer =
     length bytes - at
 
 loop-holds : tie.Need-loop-holds Inv-loop μ-loop
 loop-holds c = (starts _ _ refl refl, record { bytes-short = omega arith; arrivals-short = omega arith; ids-short = omega arith; octets-short = omega arith })
 
 has-room-requires : tie.Need-has-room-requires Inv-loop μ-loop
-has-room-requires c κs = search needs
+has-room-requires c κs = tt
+
+read-requires : tie.Need-read-requires Inv-loop μ-loop
+read-requires c κs = tt
 
 next-task-requires : tie.Need-next-task-requires Inv-loop μ-loop
-next-task-requires c κs = search needs
+next-task-requires c κs = tt
+
+-- ---- the end
 
 enum-known-task : tie.Need-enum-known-task Inv-loop μ-loop
 enum-known-task c = search needs
 
 same-length : tie.Need-same-length Inv-loop μ-loop
-same-length c = c .before .before .before .before .before .loop .inv .0 .arrivals-long
+same-length c = c .before .before .before .before .before .before .loop .inv .0 .arrivals-long
 
 same-length-2 : tie.Need-same-length-2 Inv-loop μ-loop
-same-length-2 c = c .before .before .before .before .before .loop .inv .0 .ids-long
+same-length-2 c = c .before .before .before .before .before .before .loop .inv .0 .ids-long
 
 same-length-3 : tie.Need-same-length-3 Inv-loop μ-loop
-same-length-3 c = c .before .before .before .before .before .loop .inv .0 .octets-long
+same-length-3 c = c .before .before .before .before .before .before .loop .inv .0 .octets-long
 
 returns : tie.Need-returns Inv-loop μ-loop
 unfolding ended begun
 returns c =
     let k = c .before in
     let n = k .before .before in
-    let l = n .before .before .loop in
-    (turn-ends _ _ _ (l .inv .0) _ (task-is _ _ _ _ (n .before .has-room .ensures) (n .next-task .ensures)) _ (k .task .given .1), l .inv .0 .within)
+    let l = n .before .before .before .loop in
+    (turn-ends _ _ _ _ (l .inv .0) _ (n .before .before .has-room .ensures) _ (n .before .read .ensures) _ (n .next-task .ensures) _ (k .task .given .1), l .inv .0 .within)
+
+-- ---- a set-up
 
 enum-known-task-2 : tie.Need-enum-known-task-2 Inv-loop μ-loop
 enum-known-task-2 c = search needs
 
-group-place-requires : tie.Need-group-place-requires Inv-loop μ-loop
-group-place-requires c κs = search needs
+stream-at-requires : tie.Need-stream-at-requires Inv-loop μ-loop
+stream-at-requires c κs = tt
 
-at-group : (c : tie.After-group-place Inv-loop μ-loop) → c .group-place .result < 16
-at-group c = group-found _ _ (c .group-place .ensures)
+group-at-requires : tie.Need-group-at-requires Inv-loop μ-loop
+group-at-requires c κs = tt
 
-mul-place-group : tie.Need-mul-place-group Inv-loop μ-loop
-mul-place-group c = omega (arith, at-group c)
+stream-in : (c : tie.After-stream-at Inv-loop μ-loop) → c .stream-at .result < 64
+stream-in c = stream-found _ _ (c .stream-at .ensures)
 
-array-copy-out-place-group : tie.Need-array-copy-out-place-group Inv-loop μ-loop
-array-copy-out-place-group c = at-group c
+group-in : (c : tie.After-group-at Inv-loop μ-loop) → c .group-at .result < 16
+group-in c = group-found _ _ (c .group-at .ensures)
 
-place-group-requires : tie.Need-place-group-requires Inv-loop μ-loop
-place-group-requires c κs = search needs
+mul-prepare : tie.Need-mul-prepare Inv-loop μ-loop
+mul-prepare c = omega (arith, stream-in (c .before))
+
+array-copy-out-prepare : tie.Need-array-copy-out-prepare Inv-loop μ-loop
+array-copy-out-prepare c = stream-in (c .before)
+
+mul-prepare-2 : tie.Need-mul-prepare-2 Inv-loop μ-loop
+mul-prepare-2 c = omega (arith, group-in (c .before))
+
+array-copy-out-prepare-2 : tie.Need-array-copy-out-prepare-2 Inv-loop μ-loop
+array-copy-out-prepare-2 c = group-in (c .before)
+
+prepare-requires : tie.Need-prepare-requires Inv-loop μ-loop
+prepare-requires c κs = tt
+
+mul-streams : tie.Need-mul-streams Inv-loop μ-loop
+mul-streams c = omega (arith, stream-in (c .before .before .before .before .before .before))
+
+array-set-from-streams : tie.Need-array-set-from-streams Inv-loop μ-loop
+array-set-from-streams c = stream-in (c .before .before .before .before .before .before)
 
 mul-groups : tie.Need-mul-groups Inv-loop μ-loop
-mul-groups c = omega (arith, at-group (c .before .before .before))
+mul-groups c = omega (arith, group-in (c .before .before .before .before .before))
 
 array-set-from-groups : tie.Need-array-set-from-groups Inv-loop μ-loop
-array-set-from-groups c = at-group (c .before .before .before)
+array-set-from-groups c = group-in (c .before .before .before .before .before)
+
+-- the place after the record
+set-up-next : (c : tie.After-task2 Inv-loop μ-loop)
+    → let l = c .before .before .before .before .before .loop in (l .at < c .task2 .given .0 .1 .0) × (c .task2 .given .0 .1 .0 ≤ length (c .before .before .before .before .before .before .before .before .before .before .before .before .args .bytes .now))
+set-up-next c =
+    let n = c .before .before in
+    let l = n .before .before .before .loop in
+    sets-within _ _ _ _ (l .inv .0) _ (n .before .before .has-room .ensures) _ (n .before .read .ensures) _ (n .next-task .ensures) _ _ (c .task2 .given .1)
 
 add-records : tie.Need-add-records Inv-loop μ-loop
 add-records c =
-    let p = c .before in
-    let g = p .before .before in
-    let k = g .before .before in
-    let n = k .before .before in
-    let l = n .before .before .loop in
-    let w = group-within _ _ _ (l .inv .0) _ (task-is _ _ _ _ (n .before .has-room .ensures) (n .next-task .ensures)) _ _ _ _ (k .task2 .given .1) in
-    omega (arith, w .0, w .1, l .inv .0 .few, l .inv .1 .bytes-short)
-
-enum-known-answer : tie.Need-enum-known-answer Inv-loop μ-loop
-enum-known-answer c = search needs
-
-same-length-4 : tie.Need-same-length-4 Inv-loop μ-loop
-same-length-4 c =
-    let p = c .before .before .before .before in
-    let g = p .before .before in
-    let k = g .before .before in
-    let n = k .before .before in
-    let l = n .before .before .loop in
-    l .inv .0 .arrivals-long
-
-same-length-5 : tie.Need-same-length-5 Inv-loop μ-loop
-same-length-5 c =
-    let p = c .before .before .before .before in
-    let g = p .before .before in
-    let k = g .before .before in
-    let n = k .before .before in
-    let l = n .before .before .loop in
-    l .inv .0 .ids-long
-
-same-length-6 : tie.Need-same-length-6 Inv-loop μ-loop
-same-length-6 c =
-    let p = c .before .before .before .before in
-    let g = p .before .before in
-    let k = g .before .before in
-    let n = k .before .before in
-    let l = n .before .before .loop in
-    l .inv .0 .octets-long
-
-returns-2 : tie.Need-returns-2 Inv-loop μ-loop
-unfolding ended begun setUpTaken
-returns-2 c =
-    let p = c .before .before .before .before in
-    let g = p .before .before in
-    let k = g .before .before in
-    let n = k .before .before in
-    let l = n .before .before .loop in
-    (group-refused _ _ _ (l .inv .0) _ (task-is _ _ _ _ (n .before .has-room .ensures) (n .next-task .ensures)) _ _ _ _ (k .task2 .given .1) _ (group-call _ _ _ _ _ (g .group-place .ensures) _ (p .place-group .ensures)) _ (c .before .answer .given .1), (group-within _ _ _ (l .inv .0) _ (task-is _ _ _ _ (n .before .has-room .ensures) (n .next-task .ensures)) _ _ _ _ (k .task2 .given .1)) .1)
-
-enum-told : tie.Need-enum-told Inv-loop μ-loop
-enum-told c = search needs
+    let k = c .before .before .before .before .before .before .before .before in
+    let l = k .before .before .before .before .before .loop in
+    omega (arith, set-up-next k .0, set-up-next k .1, l .inv .0 .few, l .inv .1 .bytes-short)
 
 loop-less : tie.Need-loop-less Inv-loop μ-loop
 loop-less c =
-    let p = c .before .before .before in
-    let g = p .before .before in
-    let k = g .before .before in
-    let n = k .before .before in
-    let l = n .before .before .loop in
-    let w = group-within _ _ _ (l .inv .0) _ (task-is _ _ _ _ (n .before .has-room .ensures) (n .next-task .ensures)) _ _ _ _ (k .task2 .given .1) in
-    omega (arith, w .0, w .1)
+    let k = c .before .before .before .before .before .before .before .before in
+    omega (arith, set-up-next k .0, set-up-next k .1)
 
 loop-again : tie.Need-loop-again Inv-loop μ-loop
 unfolding setUpTaken
 loop-again c =
-    let p = c .before .before .before in
-    let g = p .before .before in
-    let k = g .before .before in
+    let x = c .before .before in
+    let q = x .before .before .before in
+    let p = q .before in
+    let k = p .before .before in
     let n = k .before .before in
-    let l = n .before .before .loop in
-    (group-done _ _ _ (l .inv .0) _ (task-is _ _ _ _ (n .before .has-room .ensures) (n .next-task .ensures)) _ _ _ _ (k .task2 .given .1) _ (group-call _ _ _ _ _ (g .group-place .ensures) _ (p .place-group .ensures)) (c .enum-told .given .1), l .inv .1)
+    let l = n .before .before .before .loop in
+    (turn-sets _ _ _ _ (l .inv .0) _ (n .before .before .has-room .ensures) _ (n .before .read .ensures) _ (n .next-task .ensures) _ _ (k .task2 .given .1) _ (call-is _ _ _ _ (p .stream-at .ensures) (q .group-at .ensures) _ (x .prepare .ensures)), l .inv .1)
+
+-- ---- a frame
 
 enum-known-task-3 : tie.Need-enum-known-task-3 Inv-loop μ-loop
 enum-known-task-3 c = search needs
 
-stream-place-requires : tie.Need-stream-place-requires Inv-loop μ-loop
-stream-place-requires c κs = search needs
-
-group-place-requires-2 : tie.Need-group-place-requires-2 Inv-loop μ-loop
-group-place-requires-2 c κs = search needs
-
-at-stream : (c : tie.After-stream-place Inv-loop μ-loop) → c .stream-place .result < 64
-at-stream c = stream-found _ _ (c .stream-place .ensures)
-
-of-group : (c : tie.After-group-place2 Inv-loop μ-loop) → c .group-place2 .result < 16
-of-group c = group-found _ _ (c .group-place2 .ensures)
-
-mul-place-stream : tie.Need-mul-place-stream Inv-loop μ-loop
-mul-place-stream c = omega (arith, at-stream (c .before))
-
-array-copy-out-place-stream : tie.Need-array-copy-out-place-stream Inv-loop μ-loop
-array-copy-out-place-stream c = at-stream (c .before)
-
-mul-place-stream-2 : tie.Need-mul-place-stream-2 Inv-loop μ-loop
-mul-place-stream-2 c = omega (arith, of-group (c .before))
-
-array-copy-out-place-stream-2 : tie.Need-array-copy-out-place-stream-2 Inv-loop μ-loop
-array-copy-out-place-stream-2 c = of-group (c .before)
-
-cast-t63 : tie.Need-cast-t63 Inv-loop μ-loop
-cast-t63 c = search needs
-
-place-stream-requires : tie.Need-place-stream-requires Inv-loop μ-loop
-place-stream-requires c κs = search needs
-
-mul-streams : tie.Need-mul-streams Inv-loop μ-loop
-mul-streams c = omega (arith, at-stream (c .before .before .before .before .before))
-
-array-set-from-streams : tie.Need-array-set-from-streams Inv-loop μ-loop
-array-set-from-streams c = at-stream (c .before .before .before .before .before)
-
-add-records-2 : tie.Need-add-records-2 Inv-loop μ-loop
-add-records-2 c =
-    let p = c .before in
-    let g = p .before .before .before in
-    let s = g .before in
-    let k = s .before .before in
-    let n = k .before .before in
-    let l = n .before .before .loop in
-    let w = stream-within _ _ _ (l .inv .0) _ (task-is _ _ _ _ (n .before .has-room .ensures) (n .next-task .ensures)) _ _ _ _ _ (k .task3 .given .1) in
-    omega (arith, w .0, w .1, l .inv .0 .few, l .inv .1 .bytes-short)
-
-enum-known-answer-2 : tie.Need-enum-known-answer-2 Inv-loop μ-loop
-enum-known-answer-2 c = search needs
-
-same-length-7 : tie.Need-same-length-7 Inv-loop μ-loop
-same-length-7 c =
-    let p = c .before .before .before .before in
-    let g = p .before .before .before in
-    let s = g .before in
-    let k = s .before .before in
-    let n = k .before .before in
-    let l = n .before .before .loop in
-    l .inv .0 .arrivals-long
-
-same-length-8 : tie.Need-same-length-8 Inv-loop μ-loop
-same-length-8 c =
-    let p = c .before .before .before .before in
-    let g = p .before .before .before in
-    let s = g .before in
-    let k = s .before .before in
-    let n = k .before .before in
-    let l = n .before .before .loop in
-    l .inv .0 .ids-long
-
-same-length-9 : tie.Need-same-length-9 Inv-loop μ-loop
-same-length-9 c =
-    let p = c .before .before .before .before in
-    let g = p .before .before .before in
-    let s = g .before in
-    let k = s .before .before in
-    let n = k .before .before in
-    let l = n .before .before .loop in
-    l .inv .0 .octets-long
-
-returns-3 : tie.Need-returns-3 Inv-loop μ-loop
-unfolding ended begun setUpTaken
-returns-3 c =
-    let p = c .before .before .before .before in
-    let g = p .before .before .before in
-    let s = g .before in
-    let k = s .before .before in
-    let n = k .before .before in
-    let l = n .before .before .loop in
-    (stream-refused _ _ _ (l .inv .0) _ (task-is _ _ _ _ (n .before .has-room .ensures) (n .next-task .ensures)) _ _ _ _ _ (k .task3 .given .1) _ (stream-call _ _ _ _ _ _ _ (s .stream-place .ensures) (g .group-place2 .ensures) _ (p .place-stream .ensures)) _ (c .before .answer2 .given .1), (stream-within _ _ _ (l .inv .0) _ (task-is _ _ _ _ (n .before .has-room .ensures) (n .next-task .ensures)) _ _ _ _ _ (k .task3 .given .1)) .1)
-
-enum-told-2 : tie.Need-enum-told-2 Inv-loop μ-loop
-enum-told-2 c = search needs
-
-loop-less-2 : tie.Need-loop-less-2 Inv-loop μ-loop
-loop-less-2 c =
-    let p = c .before .before .before in
-    let g = p .before .before .before in
-    let s = g .before in
-    let k = s .before .before in
-    let n = k .before .before in
-    let l = n .before .before .loop in
-    let w = stream-within _ _ _ (l .inv .0) _ (task-is _ _ _ _ (n .before .has-room .ensures) (n .next-task .ensures)) _ _ _ _ _ (k .task3 .given .1) in
-    omega (arith, w .0, w .1)
-
-loop-again-2 : tie.Need-loop-again-2 Inv-loop μ-loop
-unfolding setUpTaken
-loop-again-2 c =
-    let p = c .before .before .before in
-    let g = p .before .before .before in
-    let s = g .before in
-    let k = s .before .before in
-    let n = k .before .before in
-    let l = n .before .before .loop in
-    (stream-done _ _ _ (l .inv .0) _ (task-is _ _ _ _ (n .before .has-room .ensures) (n .next-task .ensures)) _ _ _ _ _ (k .task3 .given .1) _ (stream-call _ _ _ _ _ _ _ (s .stream-place .ensures) (g .group-place2 .ensures) _ (p .place-stream .ensures)) (c .enum-told2 .given .1), l .inv .1)
-
-enum-known-task-4 : tie.Need-enum-known-task-4 Inv-loop μ-loop
-enum-known-task-4 c = search needs
+-- the lists have a place for it
+room : (c : tie.After-task3 Inv-loop μ-loop)
+    → let l = c .before .before .before .before .before .loop in
+    Room (record { at = l .at; records = l .records; count = l .count; bridge = record { groups = l .groups; streams = l .streams }; arrivals = l .arrivals; ids = l .ids; octets = l .octets })
+room c =
+    let n = c .before .before in
+    let l = n .before .before .before .loop in
+    frame-room _ _ _ _ (l .inv .0) _ (n .before .before .has-room .ensures) _ (n .before .read .ensures) _ (n .next-task .ensures) _ _ _ _ (c .task3 .given .1)
 
 mul-arrivals : tie.Need-mul-arrivals Inv-loop μ-loop
 mul-arrivals c =
-    let k = c .before in
-    let n = k .before .before in
-    let l = n .before .before .loop in
-    let r = frame-room _ _ _ (l .inv .0) _ (task-is _ _ _ _ (n .before .has-room .ensures) (n .next-task .ensures)) _ _ _ _ (k .task4 .given .1) in
-    omega (arith, r .arrivals, l .inv .0 .arrivals-long, l .inv .1 .arrivals-short)
+    let l = c .before .before .before .before .before .before .loop in
+    omega (arith, room (c .before) .arrivals, l .inv .0 .arrivals-long, l .inv .1 .arrivals-short)
 
 slice-write-arrivals : tie.Need-slice-write-arrivals Inv-loop μ-loop
-slice-write-arrivals c =
-    let k = c .before in
-    let n = k .before .before in
-    let l = n .before .before .loop in
-    let r = frame-room _ _ _ (l .inv .0) _ (task-is _ _ _ _ (n .before .has-room .ensures) (n .next-task .ensures)) _ _ _ _ (k .task4 .given .1) in
-    r .arrivals
+slice-write-arrivals c = room (c .before) .arrivals
 
 slice-write-ids : tie.Need-slice-write-ids Inv-loop μ-loop
-slice-write-ids c =
-    let k = c .before in
-    let n = k .before .before in
-    let l = n .before .before .loop in
-    let r = frame-room _ _ _ (l .inv .0) _ (task-is _ _ _ _ (n .before .has-room .ensures) (n .next-task .ensures)) _ _ _ _ (k .task4 .given .1) in
-    r .ids
+slice-write-ids c = room (c .before) .ids
 
 mul-octets : tie.Need-mul-octets Inv-loop μ-loop
 mul-octets c =
-    let k = c .before in
-    let n = k .before .before in
-    let l = n .before .before .loop in
-    let r = frame-room _ _ _ (l .inv .0) _ (task-is _ _ _ _ (n .before .has-room .ensures) (n .next-task .ensures)) _ _ _ _ (k .task4 .given .1) in
-    omega (arith, r .octets, l .inv .0 .octets-long, l .inv .1 .octets-short)
+    let l = c .before .before .before .before .before .before .loop in
+    omega (arith, room (c .before) .octets, l .inv .0 .octets-long, l .inv .1 .octets-short)
 
 slice-write-octets : tie.Need-slice-write-octets Inv-loop μ-loop
-slice-write-octets c =
-    let k = c .before in
-    let n = k .before .before in
-    let l = n .before .before .loop in
-    let r = frame-room _ _ _ (l .inv .0) _ (task-is _ _ _ _ (n .before .has-room .ensures) (n .next-task .ensures)) _ _ _ _ (k .task4 .given .1) in
-    r .octets
+slice-write-octets c = room (c .before) .octets
 
-add-taken : tie.Need-add-taken Inv-loop μ-loop
-add-taken c =
-    let k = c .before in
-    let n = k .before .before in
-    let l = n .before .before .loop in
-    let r = frame-room _ _ _ (l .inv .0) _ (task-is _ _ _ _ (n .before .has-room .ensures) (n .next-task .ensures)) _ _ _ _ (k .task4 .given .1) in
-    omega (arith, r .ids, l .inv .0 .ids-long, l .inv .1 .ids-short)
+add-count : tie.Need-add-count Inv-loop μ-loop
+add-count c =
+    let l = c .before .before .before .before .before .before .loop in
+    omega (arith, room (c .before) .ids, l .inv .0 .ids-long, l .inv .1 .ids-short)
 
-add-records-3 : tie.Need-add-records-3 Inv-loop μ-loop
-add-records-3 c =
-    let k = c .before in
-    let n = k .before .before in
-    let l = n .before .before .loop in
-    let w = frame-within _ _ _ (l .inv .0) _ (task-is _ _ _ _ (n .before .has-room .ensures) (n .next-task .ensures)) _ _ _ _ (k .task4 .given .1) in
-    omega (arith, w .0, w .1, l .inv .0 .few, l .inv .1 .bytes-short)
+-- the place after the record
+frame-next : (c : tie.After-task3 Inv-loop μ-loop)
+    → let l = c .before .before .before .before .before .loop in (l .at < c .task3 .given .0 .1 .1 .1 .0) × (c .task3 .given .0 .1 .1 .1 .0 ≤ length (c .before .before .before .before .before .before .before .before .before .before .before .before .args .bytes .now))
+frame-next c =
+    let n = c .before .before in
+    let l = n .before .before .before .loop in
+    frame-within _ _ _ _ (l .inv .0) _ (n .before .before .has-room .ensures) _ (n .before .read .ensures) _ (n .next-task .ensures) _ _ _ _ (c .task3 .given .1)
 
-loop-less-3 : tie.Need-loop-less-3 Inv-loop μ-loop
-loop-less-3 c =
+add-records-2 : tie.Need-add-records-2 Inv-loop μ-loop
+add-records-2 c =
     let k = c .before in
-    let n = k .before .before in
-    let l = n .before .before .loop in
-    let w = frame-within _ _ _ (l .inv .0) _ (task-is _ _ _ _ (n .before .has-room .ensures) (n .next-task .ensures)) _ _ _ _ (k .task4 .given .1) in
-    omega (arith, w .0, w .1)
+    let l = k .before .before .before .before .before .loop in
+    omega (arith, frame-next k .0, frame-next k .1, l .inv .0 .few, l .inv .1 .bytes-short)
 
-loop-again-3 : tie.Need-loop-again-3 Inv-loop μ-loop
+loop-less-2 : tie.Need-loop-less-2 Inv-loop μ-loop
+loop-less-2 c = omega (arith, frame-next (c .before) .0, frame-next (c .before) .1)
+
+loop-again-2 : tie.Need-loop-again-2 Inv-loop μ-loop
 unfolding frameTaken
-loop-again-3 c =
+loop-again-2 c =
     let k = c .before in
     let n = k .before .before in
-    let l = n .before .before .loop in
-    (frame-taken _ _ _ (l .inv .0) _ (task-is _ _ _ _ (n .before .has-room .ensures) (n .next-task .ensures)) _ _ _ _ (k .task4 .given .1), l .inv .1)
+    let l = n .before .before .before .loop in
+    (turn-takes _ _ _ _ (l .inv .0) _ (n .before .before .has-room .ensures) _ (n .before .read .ensures) _ (n .next-task .ensures) _ _ _ _ (k .task3 .given .1), l .inv .1)
 
 pub gather-part-spec : {M : Type 1} → statement M
 gather-part-spec =
@@ -357,6 +209,7 @@ gather-part-spec =
     μ-loop
     loop-holds
     has-room-requires
+    read-requires
     next-task-requires
     enum-known-task
     same-length
@@ -364,48 +217,27 @@ gather-part-spec =
     same-length-3
     returns
     enum-known-task-2
-    group-place-requires
-    mul-place-group
-    array-copy-out-place-group
-    place-group-requires
+    stream-at-requires
+    group-at-requires
+    mul-prepare
+    array-copy-out-prepare
+    mul-prepare-2
+    array-copy-out-prepare-2
+    prepare-requires
+    mul-streams
+    array-set-from-streams
     mul-groups
     array-set-from-groups
     add-records
-    enum-known-answer
-    same-length-4
-    same-length-5
-    same-length-6
-    returns-2
-    enum-told
     loop-less
     loop-again
     enum-known-task-3
-    stream-place-requires
-    group-place-requires-2
-    mul-place-stream
-    array-copy-out-place-stream
-    mul-place-stream-2
-    array-copy-out-place-stream-2
-    cast-t63
-    place-stream-requires
-    mul-streams
-    array-set-from-streams
-    add-records-2
-    enum-known-answer-2
-    same-length-7
-    same-length-8
-    same-length-9
-    returns-3
-    enum-told-2
-    loop-less-2
-    loop-again-2
-    enum-known-task-4
     mul-arrivals
     slice-write-arrivals
     slice-write-ids
     mul-octets
     slice-write-octets
-    add-taken
-    add-records-3
-    loop-less-3
-    loop-again-3)
+    add-count
+    add-records-2
+    loop-less-2
+    loop-again-2)
