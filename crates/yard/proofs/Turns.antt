@@ -186,18 +186,29 @@ has-room s e =
     let y = both (ltb (s .count) b) (ltb (s .count) c) (x .1) in
     record { arrivals = ltb-true (s .count) a (x .0); ids = ltb-true (s .count) b (y .0); octets = ltb-true (s .count) c (y .1) }
 
--- ---- a turn: the task that the code found is the one of the definition
+-- ---- a turn of the loop
 
-module _ (bytes : List ℕ) (s₀ : State) (a : SetUp) (s : State) (G : Gathers bytes s₀ a s) (room : Bool) (e : room ≡ hasRoom (s .count) (length (s .arrivals)) (length (s .ids)) (length (s .octets))) (x : Reading) (h : x ≡ readAt bytes (s .at)) (t : Task) (f : t ≡ taskAfter a (taskFor room x)) where
-  task-is : t ≡ taskAfter a (taskAt bytes s)
-  unfolding taskAt roomIn
-  task-is = f ∙ ap (λ (y : Reading). taskAfter a (taskFor room y)) h ∙ ap (λ (b : Bool). taskAfter a (taskFor b (readAt bytes (s .at)))) e
+-- its task is the one of the definition
+pub record Turn (bytes : List ℕ) (s₀ : State) (a : SetUp) (s : State) (t : Task) : Type 0 where
+  pub gathers : Gathers bytes s₀ a s
+  pub task : t ≡ taskAfter a (taskAt bytes s)
 
+-- as the code finds it
+pub turn : (bytes : List ℕ) (s₀ : State) (a : SetUp) (s : State) → Gathers bytes s₀ a s
+    → (room : Bool) → room ≡ hasRoom (s .count) (length (s .arrivals)) (length (s .ids)) (length (s .octets)) → (x : Reading) → x ≡ readAt bytes (s .at)
+    → (t : Task) → t ≡ taskAfter a (taskFor room x) → Turn bytes s₀ a s t
+unfolding taskAt roomIn
+turn bytes s₀ a s G room e x h t f = record {
+  gathers = G;
+  task = f ∙ ap (λ (y : Reading). taskAfter a (taskFor room y)) h ∙ ap (λ (b : Bool). taskAfter a (taskFor b (readAt bytes (s .at)))) e;
+}
+
+module _ {bytes : List ℕ} {s₀ : State} {a : SetUp} {s : State} {t : Task} (T : Turn bytes s₀ a s t) where
   done : onward s t (gatherFrom bytes) ≡ gatherFrom bytes s₀
-  done = ap (λ (x : Task). onward s x (gatherFrom bytes)) task-is ∙ goes-on bytes a s ∙ G .same
+  done = ap (λ (x : Task). onward s x (gatherFrom bytes)) (T .task) ∙ goes-on bytes a s ∙ T .gathers .same
 
   ahead : Ahead (s .at) (length bytes) t
-  ahead = subst (Ahead (s .at) (length bytes)) (sym task-is) (after-ahead a (task-ahead bytes s))
+  ahead = subst (Ahead (s .at) (length bytes)) (sym (T .task)) (after-ahead a (task-ahead bytes s))
 
   pub turn-ends : (why : End) → t ≡ Ends why → ended why s ≡ gatherFrom bytes s₀
   unfolding onward
@@ -216,10 +227,10 @@ module _ (bytes : List ℕ) (s₀ : State) (a : SetUp) (s : State) (G : Gathers 
           ∙ sym (ap (λ (y : Task). onward s y (gatherFrom bytes)) g)
           ∙ done;
       within = sets-within .1;
-      few = omega (arith, G .few, sets-within .0);
-      arrivals-long = G .arrivals-long;
-      ids-long = G .ids-long;
-      octets-long = G .octets-long;
+      few = omega (arith, T .gathers .few, sets-within .0);
+      arrivals-long = T .gathers .arrivals-long;
+      ids-long = T .gathers .ids-long;
+      octets-long = T .gathers .octets-long;
     }
 
   -- a frame
@@ -228,7 +239,7 @@ module _ (bytes : List ℕ) (s₀ : State) (a : SetUp) (s : State) (G : Gathers 
     frame-within = frame-ahead (subst (Ahead (s .at) (length bytes)) g ahead)
 
     alone : (a ≡ Done) × (taskAt bytes s ≡ Frame i o A next)
-    alone = none-refused a (taskAt bytes s) i o A next (sym task-is ∙ g)
+    alone = none-refused a (taskAt bytes s) i o A next (sym (T .task) ∙ g)
 
     pub frame-room : Room s
     unfolding taskAt
@@ -242,8 +253,8 @@ module _ (bytes : List ℕ) (s₀ : State) (a : SetUp) (s : State) (G : Gathers 
           ∙ sym (ap (λ (x : Task). onward s x (gatherFrom bytes)) g)
           ∙ done;
       within = frame-within .1;
-      few = omega (arith, G .few, frame-within .0);
-      arrivals-long = simp length-set (G .arrivals-long);
-      ids-long = simp length-set (G .ids-long);
-      octets-long = simp length-set (G .octets-long);
+      few = omega (arith, T .gathers .few, frame-within .0);
+      arrivals-long = simp length-set (T .gathers .arrivals-long);
+      ids-long = simp length-set (T .gathers .ids-long);
+      octets-long = simp length-set (T .gathers .octets-long);
     }

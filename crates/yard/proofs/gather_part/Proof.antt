@@ -6,7 +6,7 @@ use Prim.Native.Nat.{ℕ, _-_, _*_, _<_, _≤_}
 use native.Mathlib.Omega.{arith}
 use lib.ListN.{length}
 use Rattle.yard.specs.Gathering.{State, ended, begun, setUpTaken, frameTaken}
-use Rattle.yard.proofs.Turns.{Gathers, starts, Room, turn-ends, sets-within, turn-sets, frame-room, frame-within, turn-takes}
+use Rattle.yard.proofs.Turns.{Gathers, starts, Room, Turn, turn, turn-ends, sets-within, turn-sets, frame-room, frame-within, turn-takes}
 use Rattle.yard.proofs.Preparing.{stream-found, group-found, call-is}
 use Rattle.yard.proofs.gather_part.Statement.{statement}
 use Rattle.yard.proofs.gather_part.Tie as tie
@@ -42,6 +42,16 @@ read-requires c κs = tt
 next-task-requires : tie.Need-next-task-requires Inv-loop μ-loop
 next-task-requires c κs = tt
 
+-- the task is the one of the definition
+here : (c : tie.After-next-task Inv-loop μ-loop)
+    → let l = c .before .before .before .loop in
+    let a = c .before .before .before .before .before .before .before .before .before .before .args in
+    Turn (a .bytes .now) (begun (a .bridge) (a .arrivals .now) (a .ids .now) (a .octets .now) (a .count)) (l .answer)
+    (record { at = l .at; records = l .records; count = l .count; bridge = record { groups = l .groups; streams = l .streams }; arrivals = l .arrivals; ids = l .ids; octets = l .octets })
+    (c .next-task .result)
+unfolding begun
+here c = turn _ _ _ _ (c .before .before .before .loop .inv .0) _ (c .before .before .has-room .ensures) _ (c .before .read .ensures) _ (c .next-task .ensures)
+
 -- ---- the end
 
 enum-known-task : tie.Need-enum-known-task Inv-loop μ-loop
@@ -60,9 +70,8 @@ returns : tie.Need-returns Inv-loop μ-loop
 unfolding ended begun
 returns c =
     let k = c .before in
-    let n = k .before .before in
-    let l = n .before .before .before .loop in
-    (turn-ends _ _ _ _ (l .inv .0) _ (n .before .before .has-room .ensures) _ (n .before .read .ensures) _ (n .next-task .ensures) _ (k .task .given .1), l .inv .0 .within)
+    let t = here (k .before .before) in
+    (turn-ends t _ (k .task .given .1), t .gathers .within)
 
 -- ---- a set-up
 
@@ -111,10 +120,7 @@ array-set-from-groups c = group-in (c .before .before .before .before .before)
 -- the place after the record
 set-up-next : (c : tie.After-task2 Inv-loop μ-loop)
     → let l = c .before .before .before .before .before .loop in (l .at < c .task2 .given .0 .1 .0) × (c .task2 .given .0 .1 .0 ≤ length (c .before .before .before .before .before .before .before .before .before .before .before .before .args .bytes .now))
-set-up-next c =
-    let n = c .before .before in
-    let l = n .before .before .before .loop in
-    sets-within _ _ _ _ (l .inv .0) _ (n .before .before .has-room .ensures) _ (n .before .read .ensures) _ (n .next-task .ensures) _ _ (c .task2 .given .1)
+set-up-next c = sets-within (here (c .before .before)) _ _ (c .task2 .given .1)
 
 add-records : tie.Need-add-records Inv-loop μ-loop
 add-records c =
@@ -128,7 +134,7 @@ loop-less c =
     omega (arith, set-up-next k .0, set-up-next k .1)
 
 loop-again : tie.Need-loop-again Inv-loop μ-loop
-unfolding setUpTaken
+unfolding setUpTaken begun
 loop-again c =
     let x = c .before .before in
     let q = x .before .before .before in
@@ -136,7 +142,7 @@ loop-again c =
     let k = p .before .before in
     let n = k .before .before in
     let l = n .before .before .before .loop in
-    (turn-sets _ _ _ _ (l .inv .0) _ (n .before .before .has-room .ensures) _ (n .before .read .ensures) _ (n .next-task .ensures) _ _ (k .task2 .given .1) _ (call-is _ _ _ _ (p .stream-at .ensures) (q .group-at .ensures) _ (x .prepare .ensures)), l .inv .1)
+    (turn-sets (here n) _ _ (k .task2 .given .1) _ (call-is _ _ _ _ (p .stream-at .ensures) (q .group-at .ensures) _ (x .prepare .ensures)), l .inv .1)
 
 -- ---- a frame
 
@@ -147,10 +153,7 @@ enum-known-task-3 c = search needs
 room : (c : tie.After-task3 Inv-loop μ-loop)
     → let l = c .before .before .before .before .before .loop in
     Room (record { at = l .at; records = l .records; count = l .count; bridge = record { groups = l .groups; streams = l .streams }; arrivals = l .arrivals; ids = l .ids; octets = l .octets })
-room c =
-    let n = c .before .before in
-    let l = n .before .before .before .loop in
-    frame-room _ _ _ _ (l .inv .0) _ (n .before .before .has-room .ensures) _ (n .before .read .ensures) _ (n .next-task .ensures) _ _ _ _ (c .task3 .given .1)
+room c = frame-room (here (c .before .before)) _ _ _ _ (c .task3 .given .1)
 
 mul-arrivals : tie.Need-mul-arrivals Inv-loop μ-loop
 mul-arrivals c =
@@ -179,10 +182,7 @@ add-count c =
 -- the place after the record
 frame-next : (c : tie.After-task3 Inv-loop μ-loop)
     → let l = c .before .before .before .before .before .loop in (l .at < c .task3 .given .0 .1 .1 .1 .0) × (c .task3 .given .0 .1 .1 .1 .0 ≤ length (c .before .before .before .before .before .before .before .before .before .before .before .before .args .bytes .now))
-frame-next c =
-    let n = c .before .before in
-    let l = n .before .before .before .loop in
-    frame-within _ _ _ _ (l .inv .0) _ (n .before .before .has-room .ensures) _ (n .before .read .ensures) _ (n .next-task .ensures) _ _ _ _ (c .task3 .given .1)
+frame-next c = frame-within (here (c .before .before)) _ _ _ _ (c .task3 .given .1)
 
 add-records-2 : tie.Need-add-records-2 Inv-loop μ-loop
 add-records-2 c =
@@ -194,12 +194,12 @@ loop-less-2 : tie.Need-loop-less-2 Inv-loop μ-loop
 loop-less-2 c = omega (arith, frame-next (c .before) .0, frame-next (c .before) .1)
 
 loop-again-2 : tie.Need-loop-again-2 Inv-loop μ-loop
-unfolding frameTaken
+unfolding frameTaken begun
 loop-again-2 c =
     let k = c .before in
     let n = k .before .before in
     let l = n .before .before .before .loop in
-    (turn-takes _ _ _ _ (l .inv .0) _ (n .before .before .has-room .ensures) _ (n .before .read .ensures) _ (n .next-task .ensures) _ _ _ _ (k .task3 .given .1), l .inv .1)
+    (turn-takes (here n) _ _ _ _ (k .task3 .given .1), l .inv .1)
 
 pub gather-part-spec : {M : Type 1} → statement M
 gather-part-spec =
