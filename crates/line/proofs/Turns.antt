@@ -126,13 +126,30 @@ starts i budget s firsts places z F K = record {
   moments-long = refl;
 }
 
--- ---- a turn; sm and st are what the code found
-module _ (i : Input) (budget : ℕ) (s₀ s : State) (firsts places : List ℕ) (R : Running i budget s₀ s firsts places)
-    (sm : Smallest) (p : sm ≡ smallestIn firsts) (st : Step)
-    (q : st ≡ stepFor (budget - s .events) (s .picks) (length (s .picked)) (length (s .moments)) (nextEvent (i .arrivals) (s .next) (s .free) sm)) where
-  step-is : st ≡ step i (budget - s .events) s
-  unfolding step
-  step-is = q ∙ ap (λ (x : Smallest). stepFor (budget - s .events) (s .picks) (length (s .picked)) (length (s .moments)) (nextEvent (i .arrivals) (s .next) (s .free) x)) (p ∙ smallest-is (s .waiting) firsts places (R .keeps))
+-- ---- a turn of the loop
+
+-- its step st is the one of the definition
+pub record Turn (i : Input) (budget : ℕ) (s₀ s : State) (firsts places : List ℕ) (st : Step) : Type 0 where
+  pub running : Running i budget s₀ s firsts places
+  pub step-is : st ≡ step i (budget - s .events) s
+
+-- as the code finds it: sm is the smallest waiting time
+pub turn : (i : Input) (budget : ℕ) (s₀ s : State) (firsts places : List ℕ) → Running i budget s₀ s firsts places
+    → (sm : Smallest) → sm ≡ smallestIn firsts
+    → (st : Step) → st ≡ stepFor (budget - s .events) (s .picks) (length (s .picked)) (length (s .moments)) (nextEvent (i .arrivals) (s .next) (s .free) sm)
+    → Turn i budget s₀ s firsts places st
+unfolding step
+turn i budget s₀ s firsts places R sm p st q = record {
+  running = R;
+  step-is = q ∙ ap (λ (x : Smallest). stepFor (budget - s .events) (s .picks) (length (s .picked)) (length (s .moments)) (nextEvent (i .arrivals) (s .next) (s .free) x)) (p ∙ smallest-is (s .waiting) firsts places (R .keeps));
+}
+
+module _ {i : Input} {budget : ℕ} {s₀ s : State} {firsts places : List ℕ} {st : Step} (U : Turn i budget s₀ s firsts places st) where
+  abbrev R : Running i budget s₀ s firsts places
+  R = U .running
+
+  abbrev step-is : st ≡ step i (budget - s .events) s
+  step-is = U .step-is
 
   -- it ends
   pub turn-ends : (why : Stop) → st ≡ Ends why → stopped why s ≡ runFor i budget s₀

@@ -11,7 +11,7 @@ use Rattle.places.specs.Queue.{lists}
 use Rattle.event.proofs.Steps.{Picks}
 use Rattle.line.specs.Run.{stopped, begun}
 use Rattle.line.proofs.Settling.{stream-found, group-found}
-use Rattle.line.proofs.Turns.{Running, starts, fits-open, turn-ends, arrival-within, may-settle, turn-arrives, pick-within, pick-due, turn-picks}
+use Rattle.line.proofs.Turns.{Running, starts, fits-open, Turn, turn, turn-ends, arrival-within, may-settle, turn-arrives, pick-within, pick-due, turn-picks}
 use Rattle.line.proofs.run_events.Statement.{statement}
 use Rattle.line.proofs.run_events.Tie as tie
 
@@ -44,6 +44,16 @@ sub-next-step c = search needs
 next-step-requires : tie.Need-next-step-requires Inv-loop μ-loop
 next-step-requires c κs = search needs
 
+-- the step is the one of the definition
+here : (c : tie.After-next-step Inv-loop μ-loop)
+    → let l = c .before .before .before .loop in
+    let a = c .before .before .before .before .before .before .before .before .before .before .before .before .before .before .before .before .before .before .before .before .before .args in
+    Turn (record { arrivals = a .arrivals .now; ids = a .ids .now; octets = a .octets .now; rate = a .rate .0 }) (a .budget)
+    (record { bridge = a .bridge; waiting = a .waiting; next = a .start; free = a .free .0; events = 0; picks = 0; answers = a .answers .now; picked = a .picked .now; moments = a .moments .now })
+    (record { bridge = record { groups = l .groups; streams = l .streams }; waiting = lists (l .times) (l .handles) (l .bits) (l .fills); next = l .next; free = l .free-at; events = l .events; picks = l .picks; answers = l .answers; picked = l .picked; moments = l .moments })
+    (l .firsts) (l .places) (c .next-step .result)
+here c = turn _ _ _ _ _ _ (c .before .before .before .loop .inv) _ (c .before .soonest .ensures) _ (c .next-step .ensures)
+
 enum-known-step : tie.Need-enum-known-step Inv-loop μ-loop
 enum-known-step c = search needs
 
@@ -60,7 +70,7 @@ returns : tie.Need-returns Inv-loop μ-loop
 unfolding stopped begun
 returns c =
     let n = c .before .before .before in
-    turn-ends _ _ _ _ _ _ (n .before .before .before .loop .inv) _ (n .before .soonest .ensures) _ (n .next-step .ensures) _ (c .before .step .given .1)
+    turn-ends (here n) _ (c .before .step .given .1)
 
 enum-told : tie.Need-enum-told Inv-loop μ-loop
 enum-told c = search needs
@@ -69,7 +79,7 @@ enum-told c = search needs
 arrival-found : (c : tie.After-enum-told Inv-loop μ-loop) → let l = c .before .before .before .before .before .loop in let a = c .before .before .before .before .before .before .before .before .before .before .before .before .before .before .before .before .before .before .before .before .before .before .before .args in (1 ≤ a .budget - l .events) × (l .next < length (a .arrivals .now))
 arrival-found c =
     let n = c .before .before in
-    arrival-within _ _ _ _ _ _ (n .before .before .before .loop .inv) _ (n .before .soonest .ensures) _ (n .next-step .ensures) (c .enum-told .given .1)
+    arrival-within (here n) (c .enum-told .given .1)
 
 shared-slice-read-id : tie.Need-shared-slice-read-id Inv-loop μ-loop
 shared-slice-read-id c = omega (arith, (arrival-found (c .before)) .1, c .before .before .before .before .before .before .loop .inv .ids)
@@ -135,7 +145,7 @@ settle-requires c κs =
     let s = g .before .before in
     let e = s .before .before in
     let n = e .before .before in
-    (n .before .before .before .loop .inv .keeps, may-settle _ _ _ _ _ _ (n .before .before .before .loop .inv) _ (n .before .soonest .ensures) _ (n .next-step .ensures) (e .enum-told .given .1) _ _ (s .place-of .ensures) (g .place-of2 .ensures) _ (j .judge-at .ensures))
+    (n .before .before .before .loop .inv .keeps, may-settle (here n) (e .enum-told .given .1) _ _ (s .place-of .ensures) (g .place-of2 .ensures) _ (j .judge-at .ensures))
 
 slice-write-answers : tie.Need-slice-write-answers Inv-loop μ-loop
 slice-write-answers c = omega (arith, (arrival-found (c .before .before .before .before .before .before .before .before .before .before .before .before .before .before .before .before .before)) .1, c .before .before .before .before .before .before .before .before .before .before .before .before .before .before .before .before .before .before .before .before .before .before .loop .inv .room)
@@ -156,7 +166,7 @@ loop-again c =
     let s = g .before .before in
     let e = s .before .before in
     let n = e .before .before in
-    turn-arrives _ _ _ _ _ _ (n .before .before .before .loop .inv) _ (n .before .soonest .ensures) _ (n .next-step .ensures) (e .enum-told .given .1) _ _ (s .place-of .ensures) (g .place-of2 .ensures) _ (j .judge-at .ensures) _ _ (c .settle .ensures .0) _ _ (c .settle .ensures .1)
+    turn-arrives (here n) (e .enum-told .given .1) _ _ (s .place-of .ensures) (g .place-of2 .ensures) _ (j .judge-at .ensures) _ _ (c .settle .ensures .0) _ _ (c .settle .ensures .1)
 
 enum-known-step-2 : tie.Need-enum-known-step-2 Inv-loop μ-loop
 enum-known-step-2 c = search needs
@@ -165,13 +175,13 @@ enum-known-step-2 c = search needs
 pick-found : (c : tie.After-step2 Inv-loop μ-loop) → let l = c .before .before .before .before .before .loop in Picks (c .before .before .before .before .before .before .before .before .before .before .before .before .before .before .before .before .before .before .before .before .before .before .before .args .budget - l .events) (l .picks) (length (l .picked)) (length (l .moments)) (c .step2 .given .0 .0 .0)
 pick-found c =
     let n = c .before .before in
-    pick-within _ _ _ _ _ _ (n .before .before .before .loop .inv) _ (n .before .soonest .ensures) _ (n .next-step .ensures) _ (c .step2 .given .1)
+    pick-within (here n) _ (c .step2 .given .1)
 
 dequeue-requires : tie.Need-dequeue-requires Inv-loop μ-loop
 dequeue-requires c κs =
     let k = c .before .before .before .before .before .before .before in
     let n = k .before .before in
-    (n .before .before .before .loop .inv .keeps, (pick-due _ _ _ _ _ _ (n .before .before .before .loop .inv) _ (n .before .soonest .ensures) _ (n .next-step .ensures) _ (k .step2 .given .1), at-most PickMoment _ (pick-found k .in-time)))
+    (n .before .before .before .loop .inv .keeps, (pick-due (here n) _ (k .step2 .given .1), at-most PickMoment _ (pick-found k .in-time)))
 
 mul-picked : tie.Need-mul-picked Inv-loop μ-loop
 mul-picked c = omega (arith, pick-found (c .before .before .before .before .before .before .before .before) .handle-room, c .before .before .before .before .before .before .before .before .before .before .before .before .before .loop .inv .picked-long, c .before .before .before .before .before .before .before .before .before .before .before .before .before .before .before .before .before .before .before .before .before .before .before .before .before .before .before .before .before .before .before .good .1 .1 .1 .1 .1 .1 .1 .1 .1 .1 .0 .1)
@@ -204,7 +214,7 @@ loop-again-2 : tie.Need-loop-again-2 Inv-loop μ-loop
 loop-again-2 c =
     let k = c .before .before .before .before .before .before .before .before .before .before in
     let n = k .before .before in
-    turn-picks _ _ _ _ _ _ (n .before .before .before .loop .inv) _ (n .before .soonest .ensures) _ (n .next-step .ensures) _ (k .step2 .given .1) _ _ _ _ (c .before .before .dequeue .ensures) _ (c .before .sending-ticks .ensures .0)
+    turn-picks (here n) _ (k .step2 .given .1) _ _ _ _ (c .before .before .dequeue .ensures) _ (c .before .sending-ticks .ensures .0)
 
 pub run-events-spec : {M : Type 1} → statement M
 run-events-spec =
