@@ -3,7 +3,7 @@
 ghost use mathlib.Core.Path.{_≡_};
 ghost use mathlib.Core.List.{[], _∷_};
 ghost use Rattle.text.specs.Decimal.{decimal};
-ghost use Rattle.text.specs.Places.{Placed};
+ghost use Rattle.text.specs.Places.{Placed, placed};
 ghost use Rattle.account.specs.Lines.{lineEnd, pair, stop, linePut};
 ghost use Rattle.account.specs.Puts.{puts};
 
@@ -34,6 +34,17 @@ pub enum Line {
     },
 }
 
+// One character.
+fn put_byte(out: &mut [u8], at: usize, byte: u8) -> usize
+    ensures { λ r. ⌜ record { next = r; bytes = now (out .exit) } ≡ placed (now (out .entry)) at (byte ∷ []) ⌝ }
+{
+    if at < out.len() {
+        out[at] = byte;
+        return at + 1;
+    }
+    at
+}
+
 // A word and a number after it.
 fn put_field(out: &mut [u8], at: usize, word: &[u8], n: u64) -> usize
     ensures { λ r. ⌜ record { next = r; bytes = now (out .exit) } ≡ puts (now (out .entry)) at (now (word .entry) ∷ decimal n ∷ []) ⌝ }
@@ -47,15 +58,17 @@ fn put_last(out: &mut [u8], at: usize, word: &[u8], n: u64) -> usize
     ensures { λ r. ⌜ record { next = r; bytes = now (out .exit) } ≡ puts (now (out .entry)) at (now (word .entry) ∷ decimal n ∷ lineEnd ∷ []) ⌝ }
 {
     let after = put_field(out, at, word, n);
-    text::put_text(out, after, b"\n")
+    put_byte(out, after, b'\n')
 }
 
 // Two numbers and the line's end.
 fn put_pair(out: &mut [u8], at: usize, a: u64, b: u64) -> usize
     ensures { λ r. ⌜ record { next = r; bytes = now (out .exit) } ≡ puts (now (out .entry)) at (pair a b) ⌝ }
 {
-    let after = text::put_decimal(out, at, a);
-    put_last(out, after, b" ", b)
+    let after_a = text::put_decimal(out, at, a);
+    let after_space = put_byte(out, after_a, b' ');
+    let after_b = text::put_decimal(out, after_space, b);
+    put_byte(out, after_b, b'\n')
 }
 
 // The five numbers of a stop, each after its word, and the line's end.

@@ -11,11 +11,8 @@ use Rattle.account.proofs.put_last.Tie as tie
 put-field-requires : tie.Need-put-field-requires
 put-field-requires c κs = search needs
 
-slice-aggregate-put-text : tie.Need-slice-aggregate-put-text
-slice-aggregate-put-text c = search needs
-
-put-text-requires : tie.Need-put-text-requires
-put-text-requires c κs = search needs
+put-byte-requires : tie.Need-put-byte-requires
+put-byte-requires c κs = search needs
 
 same-length : tie.Need-same-length
 same-length c = search needs
@@ -23,11 +20,9 @@ same-length c = search needs
 returns : tie.Need-returns
 unfolding puts
 returns c =
-    let t = c .before .before in
-    let f = t .before .before .before .before .before in
-    t .put-text .ensures ∙ and-then (_ ∷ _ ∷ []) (lineEnd ∷ []) _ _ _ _ (f .put-field .ensures)
+    let e = c .before .before in
+    let f = e .before .before .before .before in
+    e .put-byte .ensures ∙ and-then (_ ∷ _ ∷ []) (lineEnd ∷ []) _ _ _ _ (f .put-field .ensures)
 
 pub put-last-spec : {M : Type 1} → statement M
-put-last-spec =
-    tie.close
-    (tie.spec put-field-requires slice-aggregate-put-text put-text-requires same-length returns)
+put-last-spec = tie.close (tie.spec put-field-requires put-byte-requires same-length returns)

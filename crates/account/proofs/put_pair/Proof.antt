@@ -1,4 +1,4 @@
--- `account::put_pair` meets its contract: a number, and the last field after it. Assumes nothing.
+-- `account::put_pair` meets its contract: a number, a space, a number, the line end. Assumes nothing.
 use borrow.Author.Needs.{needs}
 use mathlib.Core.Path.{_∙_}
 use mathlib.Core.List.{[], _∷_}
@@ -11,11 +11,14 @@ use Rattle.account.proofs.put_pair.Tie as tie
 put-decimal-requires : tie.Need-put-decimal-requires
 put-decimal-requires c κs = search needs
 
-slice-aggregate-put-last : tie.Need-slice-aggregate-put-last
-slice-aggregate-put-last c = search needs
+put-byte-requires : tie.Need-put-byte-requires
+put-byte-requires c κs = search needs
 
-put-last-requires : tie.Need-put-last-requires
-put-last-requires c κs = search needs
+put-decimal-requires-2 : tie.Need-put-decimal-requires-2
+put-decimal-requires-2 c κs = search needs
+
+put-byte-requires-2 : tie.Need-put-byte-requires-2
+put-byte-requires-2 c κs = search needs
 
 same-length : tie.Need-same-length
 same-length c = search needs
@@ -23,11 +26,15 @@ same-length c = search needs
 returns : tie.Need-returns
 unfolding puts
 returns c =
-    let l = c .before .before in
-    let d = l .before .before .before .before .before in
-    l .put-last .ensures ∙ and-then (_ ∷ []) (space ∷ _ ∷ lineEnd ∷ []) _ _ _ _ (d .put-decimal .ensures)
+    let e = c .before .before in
+    let b = e .before .before .before .before in
+    let s = b .before .before .before .before in
+    let a = s .before .before .before .before in
+    let to-space = s .put-byte .ensures ∙ and-then (_ ∷ []) (space ∷ []) _ _ _ _ (a .put-decimal .ensures) in
+    let to-b = b .put-decimal2 .ensures ∙ and-then (_ ∷ space ∷ []) (_ ∷ []) _ _ _ _ to-space in
+    e .put-byte2 .ensures ∙ and-then (_ ∷ space ∷ _ ∷ []) (lineEnd ∷ []) _ _ _ _ to-b
 
 pub put-pair-spec : {M : Type 1} → statement M
 put-pair-spec =
     tie.close
-    (tie.spec put-decimal-requires slice-aggregate-put-last put-last-requires same-length returns)
+    (tie.spec put-decimal-requires put-byte-requires put-decimal-requires-2 put-byte-requires-2 same-length returns)
