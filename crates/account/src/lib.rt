@@ -3,7 +3,7 @@
 ghost use mathlib.Core.Path.{_≡_};
 ghost use mathlib.Core.List.{[], _∷_};
 ghost use Rattle.text.specs.Decimal.{decimal};
-ghost use Rattle.text.specs.Places.{Placed, placed};
+ghost use Rattle.text.specs.Places.{placed};
 ghost use Rattle.account.specs.Lines.{lineEnd, pair, stop, linePut};
 ghost use Rattle.account.specs.Puts.{puts};
 

@@ -1,22 +1,18 @@
 -- Laws of the tables: what is stored at place 0 for an id out of range is what stood there. Each law of a call is the return of its code. Assumes nothing.
 use mathlib.Core.Path.{_≡_, refl, sym, ap, _∙_}
-use mathlib.Core.Bool.{Bool, true, false, not, cond, _&&_}
-use Prim.Native.Nat.{ℕ, _≤_, _<_}
-use native.Mathlib.Omega.{arith}
-use lib.Dec.{ltb}
+use mathlib.Core.Bool.{Bool, true, false}
+use Prim.Native.Nat.{ℕ}
 use lib.ListN.{getD, set}
 use lib.Seq.{set-getD}
-use borrow.Author.Tests.{ltb-true, ltb-false, lt-ltb, le-ltb}
-use Rattle.quantity.specs.Ranges.{inRange, mostOf, placeOf}
+use Rattle.quantity.specs.Ranges.{inRange, placeOf}
 use Rattle.quantity.specs.declared.Item.the-variants.{GroupId, StreamId}
 use Rattle.quantity.specs.declared.Refusal.{Refusal}
-use Rattle.quantity.specs.declared.Refusal.the-variants.{IdRange, SetUpBefore, NoStream, NoGroup, Unsound}
-use Rattle.quantity.proofs.Booleans.{cond-true, cond-false, and-false}
-use Rattle.quantity.proofs.Ranges.{at-most, within, place-in}
+use Rattle.quantity.specs.declared.Refusal.the-variants.{IdRange, NoStream, Unsound}
+use Rattle.quantity.proofs.Booleans.{and-false}
+use Rattle.quantity.proofs.Ranges.{place-in}
 use Rattle.records.specs.Sound.{sound, soundGroup}
 use Rattle.records.specs.Numbers.{isSetUp}
 use Rattle.shaper.specs.Numbers.{judged, refused}
-use Rattle.setup.specs.SetUp.{groupSetUp, streamSetUp}
 use Rattle.records.specs.declared.Group.{Group}
 use Rattle.records.specs.declared.Stream.{Stream}
 use Rattle.shaper.specs.declared.Judged.{Judged}
@@ -26,14 +22,14 @@ use Rattle.shaper.proofs.Judging.{not-set-up, unsound}
 use Rattle.setup.proofs.Fresh.{group-out}
 use Rattle.calls.proofs.Returns.{group-id-out, stream-id-out, frame-id-out, frame-id-in}
 use Rattle.bridge.specs.Tables.{noGroup, noStream, groupAt, streamAt, withGroup, withStream}
-use Rattle.calls.specs.Calls.{groupTaken, groupPlaced, streamTaken, streamPlaced, judgedAt}
+use Rattle.calls.specs.Calls.{groupPlaced, streamPlaced, judgedAt}
 use Rattle.bridge.specs.Calls.{groupStored, groupCalled, streamStored, streamCalled, frameStored, frameCalled}
 use Rattle.bridge.specs.declared.Bridge.{Bridge}
 use Rattle.calls.specs.declared.PlacedGroup.{PlacedGroup}
 use Rattle.calls.specs.declared.PlacedStream.{PlacedStream}
 use Rattle.bridge.specs.declared.BridgeSetUp.{BridgeSetUp}
 use Rattle.bridge.specs.declared.Framed.{Framed}
-use Rattle.calls.specs.declared.SetUp.the-variants.{Done, Refused}
+use Rattle.calls.specs.declared.SetUp.the-variants.{Refused}
 
 -- ---- a record that is stored where it stood changes nothing
 pub same-group : (b : Bridge) (i : ℕ) → withGroup b i (groupAt b i) ≡ b

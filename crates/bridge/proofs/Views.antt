@@ -1,8 +1,8 @@
 -- What a call does, as cases: it is refused and the tables stay, or it changes one record, or a frame's two. Assumes nothing.
-use mathlib.Core.Path.{_≡_, refl, sym, ap, _∙_}
-use mathlib.Core.Bool.{Bool, true, false, not, cond, _&&_}
+use mathlib.Core.Path.{_≡_, refl, ap, _∙_}
+use mathlib.Core.Bool.{Bool, true, false}
 use mathlib.Core.Logic.{_⊎_, inl, inr}
-use Prim.Native.Nat.{ℕ, _+_, _≤_, _<_}
+use Prim.Native.Nat.{ℕ}
 use native.Mathlib.Omega.{arith}
 use Rattle.quantity.specs.Ranges.{inRange}
 use Rattle.quantity.specs.Numbers.{numberOf}
@@ -11,25 +11,20 @@ use Rattle.quantity.specs.declared.Refusal.{Refusal}
 use Rattle.quantity.specs.declared.Refusal.the-variants.{Unsound, IdRange, SetUpBefore, NoStream, NoGroup, RateRange, BurstRange, ClassRange, ResidenceRange}
 use Rattle.shaper.specs.Frame.{processFrame}
 use Rattle.records.specs.Sound.{sound, soundGroup}
-use Rattle.setup.specs.SetUp.{freshGroup, freshStream, groupSetUp, streamSetUp}
+use Rattle.setup.specs.SetUp.{freshGroup, freshStream}
 use Rattle.records.specs.Numbers.{isSetUp}
-use Rattle.shaper.specs.Numbers.{judged, refused}
+use Rattle.shaper.specs.Numbers.{refused}
 use Rattle.quantity.specs.Charge.{charged}
 use Rattle.records.specs.declared.Group.{Group}
 use Rattle.records.specs.declared.Stream.{Stream}
-use Rattle.shaper.specs.declared.Judged.{Judged}
 use Rattle.records.specs.declared.Answer.{Answer}
 use Rattle.shaper.proofs.Judging.{Verdict, verdict, not-set-up}
 use Rattle.admission.proofs.Tests.{Passes}
 use Rattle.setup.proofs.Fresh.{class-out, residence-out, group-done, group-out, group-unused, group-unsound, rate-out, burst-out, stream-done}
-use Rattle.bridge.specs.Tables.{noGroup, noStream, groupAt, streamAt, withGroup, withStream}
+use Rattle.bridge.specs.Tables.{groupAt, streamAt, withGroup, withStream}
 use Rattle.calls.specs.Calls.{groupTaken, groupPlaced, streamTaken, streamPlaced, judgedAt}
 use Rattle.bridge.specs.Calls.{groupStored, groupCalled, streamStored, streamCalled, frameStored, frameCalled}
 use Rattle.bridge.specs.declared.Bridge.{Bridge}
-use Rattle.calls.specs.declared.PlacedGroup.{PlacedGroup}
-use Rattle.calls.specs.declared.PlacedStream.{PlacedStream}
-use Rattle.bridge.specs.declared.BridgeSetUp.{BridgeSetUp}
-use Rattle.bridge.specs.declared.Framed.{Framed}
 use Rattle.calls.specs.declared.SetUp.the-variants.{Done, Refused}
 use Rattle.bridge.proofs.Tables.{same-group, same-stream}
 use Rattle.calls.proofs.Returns.{group-id-out, group-before, group-taken, stream-id-out, stream-before, stream-taken, frame-id-out, frame-id-in}

@@ -11,7 +11,7 @@ use Rattle.records.specs.declared.Group.{Group}
 use Rattle.records.specs.declared.Stream.{Stream}
 use Rattle.shaper.specs.Numbers.{judged, refused}
 use Rattle.calls.specs.Calls.{groupTaken, groupPlaced, streamTaken, streamPlaced, judgedAt}
-use Rattle.calls.specs.declared.SetUp.the-variants.{Done, Refused}
+use Rattle.calls.specs.declared.SetUp.the-variants.{Refused}
 
 -- ---- the returns of the calls on one record
 module _ (i : ℕ) (g : Group) (c M : ℕ) where

@@ -1,6 +1,6 @@
 -- The promises of the listing's text, proved: each theorem has the name of its statement in specs/Promises. Assumes nothing.
-use mathlib.Core.Path.{_≡_, refl, sym, ap}
-use mathlib.Core.List.{List, [], _∷_, _++_}
+use mathlib.Core.Path.{refl, ap}
+use mathlib.Core.List.{[], _∷_}
 use Prim.Native.Nat.{ℕ, _+_, _≤_}
 use native.Mathlib.Omega.{arith}
 use lib.ListN.{length, length-append}

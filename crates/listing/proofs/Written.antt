@@ -4,13 +4,13 @@ use mathlib.Core.List.{List}
 use Prim.Native.Nat.{ℕ, _≤_}
 use native.Mathlib.Omega.{arith}
 use lib.ListN.{length, take}
-use lib.Seq.{sets, length-sets, length-take-le}
+use lib.Seq.{length-sets, length-take-le}
 use Rattle.text.specs.Places.{Placed}
 use Rattle.tablefile.specs.declared.Reading.{Reading}
 use Rattle.bridge.specs.declared.Bridge.{Bridge}
 use Rattle.lines.specs.Places.{endPut}
 use Rattle.lines.proofs.Promises.{end-within}
-use Rattle.report.specs.Parts.{Part, partOf, ListedPart, listedOf, partPut, partListed}
+use Rattle.report.specs.Parts.{partOf, ListedPart, listedOf, partPut, partListed}
 use Rattle.report.specs.declared.Listed.{Listed}
 use Rattle.report.proofs.Promises.{part-within}
 

@@ -1,40 +1,28 @@
 -- What a call leaves and what it judges, as cases over whole records; settings never change once they are made. Assumes nothing.
-use mathlib.Core.Path.{_≡_, refl, sym, ap, _∙_}
-use mathlib.Core.Bool.{Bool, true, false, cond}
-use mathlib.Core.List.{List, [], _∷_}
+use mathlib.Core.Path.{_≡_, refl, ap, _∙_}
+use mathlib.Core.Bool.{Bool, true, false}
+use mathlib.Core.List.{[], _∷_}
 use mathlib.Core.Logic.{_⊎_, inl, inr}
 use Prim.Native.Nat.{ℕ, _+_, _%_, _^_, _≤_, _<_}
-use native.Mathlib.Omega.{arith}
 use lib.Dec.{ltb}
 use borrow.Author.Tests.{ltb-true, ltb-false}
 use Rattle.quantity.specs.Ranges.{inRange}
-use Rattle.quantity.specs.declared.Item.the-variants.{GroupId, StreamId}
-use Rattle.quantity.specs.declared.Refusal.{Refusal}
-use Rattle.quantity.proofs.Ranges.{within}
-use Rattle.shaper.specs.Frame.{burstOf, afterRelease, eligibilityTime, discarded, released, settled, processFrame}
+use Rattle.quantity.specs.declared.Item.the-variants.{StreamId}
+use Rattle.shaper.specs.Frame.{afterRelease, eligibilityTime, discarded, released, processFrame}
 use Rattle.records.specs.ExactTime.{ticks}
-use Rattle.records.specs.Sound.{sound}
 use Rattle.setup.specs.SetUp.{freshGroup, freshStream}
-use Rattle.records.specs.Numbers.{isSetUp}
 use Rattle.quantity.specs.Charge.{charged}
 use Rattle.records.specs.declared.Group.{Group}
 use Rattle.records.specs.declared.Stream.{Stream}
-use Rattle.records.specs.declared.Regulator.{Regulator}
-use Rattle.records.specs.declared.Regulator.the-variants.{Unset, Bucket}
-use Rattle.shaper.specs.declared.Judged.{Judged}
-use Rattle.records.specs.declared.Answer.{Answer}
-use Rattle.records.specs.declared.Answer.the-variants.{Released, Discarded}
 use Rattle.shaper.proofs.Judging.{too-late, in-time}
 use Rattle.admission.proofs.Tests.{Passes}
-use Rattle.records.proofs.Soundness.{SoundOk, sound-ok}
 use Rattle.bridge.specs.Tables.{groupAt, streamAt, withGroup, withStream}
-use Rattle.bridge.specs.Calls.{groupCalled, streamCalled, frameStored, frameCalled}
-use Rattle.bridge.specs.History.{Call, group, stream, frame, afterCall, Frame, Outcome, outcomeOf, outcome, burstAt, rateAt}
+use Rattle.bridge.specs.Calls.{frameStored, frameCalled}
+use Rattle.bridge.specs.History.{Call, group, stream, frame, afterCall, Frame, outcomeOf, outcome}
 use Rattle.bridge.specs.History as history
 use Rattle.bridge.specs.declared.Bridge.{Bridge}
 use Rattle.bridge.specs.declared.Framed.{Framed}
 use Rattle.bridge.proofs.Views.{KeptGroup, NewGroup, group-view, KeptStream, NewStream, stream-view, KeptFrame, JudgedFrame, frame-view}
-use Rattle.promises.proofs.Places.{Sized, sized-group, sized-stream, streams-stay, groups-stay, stream-case, group-case}
 
 -- ---- the records after a release and after a discard
 abbrev pub streamAfter : Stream → ℕ → ℕ → Stream

@@ -1,25 +1,22 @@
 -- The discard count, proved: forward over the calls, from whatever the count is. Assumes nothing.
-use mathlib.Core.Path.{_≡_, refl, sym, ap, _∙_, subst}
-use mathlib.Core.Bool.{Bool, true, false, cond}
+use mathlib.Core.Path.{_≡_, refl, sym, _∙_}
+use mathlib.Core.Bool.{Bool, true, false}
 use mathlib.Core.List.{List, [], _∷_, _++_}
-use Prim.Native.Nat.{ℕ, _+_, _%_, _^_, _≤_, _<_}
+use Prim.Native.Nat.{ℕ, _+_, _%_, _^_, _<_}
 use native.Mathlib.Decide.{ℕ-discrete}
 use native.Mathlib.Omega.{arith}
-use lib.Dec.{eqb}
 use borrow.Author.Tests.{eq-eqb, ne-eqb}
 use Rattle.quantity.specs.Ranges.{inRange}
 use Rattle.quantity.specs.declared.Item.the-variants.{GroupId}
 use Rattle.setup.specs.SetUp.{freshGroup, freshStream}
-use Rattle.quantity.specs.Charge.{charged}
 use Rattle.records.specs.declared.Group.{Group}
 use Rattle.records.specs.declared.Stream.{Stream}
-use Rattle.bridge.specs.Tables.{noGroup, freshBridge, groupAt, streamAt, withGroup, withStream}
-use Rattle.bridge.specs.History.{Call, group, stream, frame, afterCall, after, history, bridgeAfter, Outcome, released, discarded, outcome, outcomes}
+use Rattle.bridge.specs.Tables.{freshBridge, groupAt, streamAt, withGroup, withStream}
+use Rattle.bridge.specs.History.{Call, group, stream, frame, afterCall, after, Outcome, released, discarded, outcome, outcomes}
 use Rattle.bridge.specs.declared.Bridge.{Bridge}
-use Rattle.bridge.proofs.Views.{NewGroup, NewStream}
 use Rattle.promises.specs.Discards.{discardsOf, DiscardCount}
 use Rattle.promises.proofs.Places.{Sized, sized-fresh, sized-stream, groups-stay, group-case, fresh-group}
-use Rattle.promises.proofs.Calls.{streamAfter, groupReleased, groupDiscarded, frameAt, Step, stays, group-made, stream-made, let-go, dropped, step}
+use Rattle.promises.proofs.Calls.{frameAt, Step, stays, group-made, stream-made, let-go, dropped, step}
 use Rattle.promises.proofs.Steady.{home-in, home-used, sized-call}
 
 -- the count that a group's record holds is n, which fits, and a group that is not set up has none

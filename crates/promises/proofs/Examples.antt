@@ -1,7 +1,7 @@
 -- The examples, proved: the premises are met and not met, and the conclusions with them. Assumes nothing.
 use mathlib.Core.Path.{_≡_, refl, sym, ap, _∙_}
-use mathlib.Core.Bool.{Bool, true, false, not, cond, _&&_}
-use mathlib.Core.List.{List, [], _∷_, _++_}
+use mathlib.Core.Bool.{true, false}
+use mathlib.Core.List.{[], _∷_}
 use Prim.Native.Nat.{ℕ, _+_, _*_, _≤_}
 use native.Mathlib.Omega.{arith}
 use native.Mathlib.Decide.{ℕ-discrete}
@@ -13,14 +13,14 @@ use Rattle.records.specs.ExactTime.{exactly, momentOf, roundedUp, E-first}
 use Rattle.shaper.specs.Frame.{burstOf, S, F, E-after, earliest, afterRelease, eligibilityTime, discarded, released, settled, processFrame}
 use Rattle.records.specs.Sound.{soundGroup, soundRegulator, sound}
 use Rattle.setup.specs.SetUp.{freshGroup, freshStream, groupSetUp, streamSetUp}
-use Rattle.records.specs.Numbers.{isSetUp, answerNumber, answerValues}
+use Rattle.records.specs.Numbers.{isSetUp, answerNumber}
 use Rattle.shaper.specs.Numbers.{afterTests, judged}
 use Rattle.admission.specs.Tests.{aboveBurst, tested}
 use Rattle.bridge.specs.Tables.{freshBridge, groupAt, streamAt, withGroup, withStream}
 use Rattle.calls.specs.Calls.{groupTaken, groupPlaced, streamTaken, streamPlaced, judgedAt}
 use Rattle.bridge.specs.Calls.{groupStored, groupCalled, streamStored, streamCalled, frameStored, frameCalled}
 use Rattle.calls.specs.Numbers.{setUpNumber}
-use Rattle.bridge.specs.History.{Call, group, stream, frame, afterCall, after, outcomeOf, outcome, outcomes, history, bridgeAfter, Sent, arriving, bitsIn, WithinBurstAndRate, burstAt, rateAt, reply}
+use Rattle.bridge.specs.History.{group, stream, frame, afterCall, after, outcomeOf, outcome, outcomes, history, bridgeAfter, Sent, arriving, bitsIn, WithinBurstAndRate, burstAt, rateAt, reply}
 use Rattle.bridge.specs.declared.Bridge.{Bridge}
 use Rattle.promises.specs.Demand3.{Conforms, EligibleOnArrival, EachOf, ConformingArrivals}
 use Rattle.promises.specs.Examples as examples

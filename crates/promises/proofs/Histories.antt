@@ -1,14 +1,14 @@
 -- The judged frames of one group in a history are a trace under the settings that its streams were given. Assumes nothing.
-use mathlib.Core.Path.{_≡_, refl, sym, ap, _∙_, subst}
-use mathlib.Core.Bool.{Bool, true, false, cond}
+use mathlib.Core.Path.{_≡_, refl, sym, _∙_, subst}
+use mathlib.Core.Bool.{true, false, cond}
 use mathlib.Core.List.{List, [], _∷_, _++_}
-use Prim.Native.Nat.{ℕ, _+_, _*_, _≤_, _<_, max}
+use Prim.Native.Nat.{ℕ, _+_, _≤_, _<_}
 use native.Mathlib.Decide.{ℕ-discrete}
 use native.Mathlib.Omega.{arith}
 use lib.Dec.{eqb}
 use borrow.Author.Tests.{ltb-false, eq-eqb, ne-eqb}
 use Rattle.quantity.specs.Ranges.{inRange}
-use Rattle.quantity.specs.declared.Item.the-variants.{GroupId, StreamId, StreamRate}
+use Rattle.quantity.specs.declared.Item.the-variants.{StreamId, StreamRate}
 use Rattle.quantity.proofs.Ranges.{at-least}
 use Rattle.shaper.specs.Frame.{burstOf, afterRelease, eligibilityTime}
 use Rattle.setup.specs.SetUp.{freshGroup, freshStream}
@@ -22,15 +22,15 @@ use Rattle.records.specs.declared.Regulator.the-variants.{Unset, Bucket}
 use Rattle.admission.proofs.Tests.{Passes}
 use Rattle.records.proofs.Soundness.{SoundOk, sound-ok}
 use Rattle.shaper.proofs.Natural.{X, T-late, T-least, X-after, X-fresh}
-use Rattle.bridge.specs.Tables.{noGroup, noStream, freshBridge, groupAt, streamAt, withGroup, withStream}
-use Rattle.bridge.specs.History.{Call, group, stream, frame, afterCall, after, Frame, Outcome, released, discarded, frameOf, outcome, outcomes, burstAt, rateAt}
+use Rattle.bridge.specs.Tables.{freshBridge, groupAt, streamAt, withGroup, withStream}
+use Rattle.bridge.specs.History.{Call, group, stream, frame, afterCall, after, Outcome, released, discarded, frameOf, outcome, outcomes, burstAt, rateAt}
 use Rattle.bridge.specs.declared.Bridge.{Bridge}
 use Rattle.bridge.proofs.Views.{NewGroup, NewStream}
-use Rattle.promises.proofs.Trace.{K, Rule, Settings, State, upd-same, upd-other, fill, filled, next, Judged, Ok, Trace}
+use Rattle.promises.proofs.Trace.{Settings, State, upd-same, upd-other, next, Judged, Ok, Trace}
 use Rattle.promises.proofs.Trace as trace
 use Rattle.promises.proofs.Places.{Sized, sized-fresh, sized-group, sized-stream, streams-stay, groups-stay, stream-case, group-case, fresh-group, fresh-stream}
 use Rattle.promises.proofs.Calls.{streamAfter, groupReleased, groupDiscarded, frameAt, Step, stays, group-made, stream-made, let-go, dropped, step}
-use Rattle.promises.proofs.Steady.{Steady, SteadyStream, SteadyGroup, home-in, home-used, sized-call, steady-after}
+use Rattle.promises.proofs.Steady.{Steady, SteadyStream, home-in, home-used, steady-after}
 
 -- the settings of a group and of every stream in a bridge
 abbrev pub settingsOf : Bridge → ℕ → Settings

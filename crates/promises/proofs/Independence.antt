@@ -1,16 +1,14 @@
 -- Independence, proved: two bridges that group g cannot tell apart stay so, whether another group's frame is called on one of them or the same call on both. Assumes nothing.
 use mathlib.Core.Path.{_≡_, refl, sym, ap, _∙_, subst}
-use mathlib.Core.Bool.{Bool, true, false, not, cond, _&&_}
+use mathlib.Core.Bool.{Bool, true, false, cond, _&&_}
 use mathlib.Core.List.{List, [], _∷_}
 use mathlib.Core.Logic.{_⊎_, inl, inr}
 use Prim.Native.Nat.{ℕ}
-use native.Mathlib.Decide.{ℕ-discrete}
 use native.Mathlib.Omega.{arith}
 use lib.Dec.{eqb}
-use borrow.Author.Tests.{eqb-true, eqb-false, eq-eqb, ne-eqb}
+use borrow.Author.Tests.{eqb-true, eq-eqb}
 use Rattle.quantity.specs.Ranges.{inRange}
 use Rattle.quantity.specs.declared.Item.the-variants.{GroupId, StreamId}
-use Rattle.quantity.specs.declared.Refusal.the-variants.{NoStream}
 use Rattle.shaper.specs.Frame.{eligibilityTime}
 use Rattle.setup.specs.SetUp.{freshGroup, freshStream}
 use Rattle.records.specs.Numbers.{isSetUp, answerNumber, answerValues}
@@ -18,18 +16,18 @@ use Rattle.quantity.specs.Charge.{charged}
 use Rattle.records.specs.declared.Group.{Group}
 use Rattle.records.specs.declared.Stream.{Stream}
 use Rattle.records.specs.declared.Answer.{Answer}
-use Rattle.bridge.specs.Tables.{noGroup, noStream, freshBridge, groupAt, streamAt, withGroup, withStream}
-use Rattle.bridge.specs.Calls.{groupCalled, streamCalled, frameStored, frameCalled}
+use Rattle.bridge.specs.Tables.{freshBridge, groupAt, streamAt, withGroup, withStream}
+use Rattle.bridge.specs.Calls.{frameStored, frameCalled}
 use Rattle.calls.specs.Calls.{judgedAt}
-use Rattle.bridge.specs.History.{Call, group, stream, frame, Reply, reply, afterCall, after, bridgeAfter, Frame, Outcome, released, discarded, outcomeOf, outcome}
+use Rattle.bridge.specs.History.{Call, group, stream, frame, reply, afterCall, after, bridgeAfter, Frame, Outcome, released, discarded, outcomeOf, outcome}
 use Rattle.bridge.specs.declared.Bridge.{Bridge}
 use Rattle.bridge.specs.declared.BridgeSetUp.{BridgeSetUp}
 use Rattle.bridge.specs.declared.Framed.{Framed}
 use Rattle.bridge.proofs.Views.{KeptGroup, NewGroup, group-makes, group-view, KeptStream, NewStream, stream-makes, stream-view, frame-unset}
-use Rattle.promises.specs.Independence.{foreign, withoutOthers, answers, SameFor, Independence}
-use Rattle.promises.proofs.Places.{Sized, sized-group, sized-stream, streams-stay, groups-stay, stream-case, group-case}
-use Rattle.promises.proofs.Calls.{streamAfter, groupReleased, groupDiscarded, frameAt, Step, stays, group-made, stream-made, let-go, dropped, step}
-use Rattle.promises.proofs.Steady.{Steady, home-in, home-used, steady-after}
+use Rattle.promises.specs.Independence.{foreign, withoutOthers, answers, Independence}
+use Rattle.promises.proofs.Places.{sized-stream, streams-stay, groups-stay, stream-case, group-case}
+use Rattle.promises.proofs.Calls.{streamAfter, groupReleased, groupDiscarded, Step, stays, let-go, dropped, step}
+use Rattle.promises.proofs.Steady.{Steady, home-in, steady-after}
 use Rattle.promises.proofs.Histories.{set-up-kept}
 use Rattle.promises.proofs.SoundBridges.{SoundBridge, sound-fresh, sound-call}
 

@@ -4,7 +4,6 @@ use mathlib.Core.Bool.{Bool, true, false, cond}
 use mathlib.Core.List.{List, [], _∷_}
 use mathlib.Core.Logic.{_⊎_, inl, inr}
 use Prim.Native.Nat.{ℕ, _+_, _≤_, _<_}
-use native.Mathlib.Decide.{ℕ-discrete}
 use native.Mathlib.Omega.{arith}
 use lib.Dec.{ltb}
 use Rattle.quantity.specs.Ranges.{inRange}
@@ -24,17 +23,17 @@ use Rattle.admission.proofs.Tests.{Passes}
 use Rattle.records.proofs.Soundness.{sound-ok, group-sound}
 use Rattle.setup.proofs.Fresh.{fresh-group-sound, fresh-stream-sound}
 use Rattle.shaper.proofs.Natural.{T-late, frame-kept, beside}
-use Rattle.bridge.specs.Tables.{noGroup, noStream, freshBridge, groupAt, streamAt, withGroup, withStream}
-use Rattle.bridge.specs.Calls.{groupCalled, streamCalled, frameStored, frameCalled}
+use Rattle.bridge.specs.Tables.{freshBridge, groupAt, streamAt, withGroup, withStream}
+use Rattle.bridge.specs.Calls.{frameStored}
 use Rattle.calls.specs.Numbers.{setUpNumber}
-use Rattle.bridge.specs.History.{Call, group, stream, frame, afterCall, after, Reply, reply, replies}
+use Rattle.bridge.specs.History.{Call, group, stream, frame, afterCall, after, reply}
 use Rattle.bridge.specs.declared.Bridge.{Bridge}
 use Rattle.bridge.specs.declared.BridgeSetUp.{BridgeSetUp}
 use Rattle.bridge.specs.declared.Framed.{Framed}
 use Rattle.bridge.proofs.Views.{KeptGroup, NewGroup, group-view, KeptStream, NewStream, stream-view, KeptFrame, JudgedFrame, frame-view}
 use Rattle.promises.proofs.Places.{Sized, sized-fresh, sized-group, sized-stream, streams-stay, groups-stay, stream-case, group-case, fresh-group, fresh-stream}
 use Rattle.promises.proofs.Calls.{streamAfter, groupReleased, groupDiscarded, Step, stays, group-made, stream-made, let-go, dropped, step}
-use Rattle.promises.proofs.Steady.{home-in, home-used, sized-call}
+use Rattle.promises.proofs.Steady.{home-in}
 
 never : {A : Type 0} (t : Bool) → t ≡ true → t ≡ false → A
 never t p q = let z : true ≡ false = sym p ∙ q in let n : _≡_ {A = ℕ} 0 1 = cc in absurd (omega arith)

@@ -1,8 +1,8 @@
 -- What no call changes: the tables' sizes, a stream's group, rate and burst once it is set up, a group's residence limit once it is. Assumes nothing.
-use mathlib.Core.Path.{_≡_, refl, sym, ap, _∙_, subst}
+use mathlib.Core.Path.{_≡_, refl, _∙_, subst}
 use mathlib.Core.Bool.{Bool, true, false}
 use mathlib.Core.List.{List, [], _∷_}
-use Prim.Native.Nat.{ℕ, _≤_, _<_}
+use Prim.Native.Nat.{ℕ}
 use native.Mathlib.Omega.{arith}
 use Rattle.quantity.specs.Ranges.{inRange}
 use Rattle.quantity.specs.declared.Item.the-variants.{GroupId, StreamId}
@@ -20,9 +20,8 @@ use Rattle.records.proofs.Soundness.{sound-ok}
 use Rattle.bridge.specs.Tables.{groupAt, streamAt, withGroup, withStream}
 use Rattle.bridge.specs.History.{Call, group, stream, frame, afterCall, after}
 use Rattle.bridge.specs.declared.Bridge.{Bridge}
-use Rattle.bridge.proofs.Views.{NewGroup, NewStream}
 use Rattle.promises.proofs.Places.{Sized, sized-group, sized-stream, streams-stay, groups-stay, stream-case, group-case}
-use Rattle.promises.proofs.Calls.{streamAfter, groupReleased, groupDiscarded, Step, stays, group-made, stream-made, let-go, dropped, step}
+use Rattle.promises.proofs.Calls.{streamAfter, Step, stays, group-made, stream-made, let-go, dropped, step}
 
 -- ---- one record after another
 pub record SteadyStream (s t : Stream) : Type 0 where

@@ -51,3 +51,7 @@ module _ (i : Item) (n : ℕ) where
       go : (t : Bool) → inRange i n ≡ t → cond t n 0 ≤ mostOf i
       go true e = at-most e
       go false e = omega arith
+
+  -- where the code has found it
+  pub place-found : (p : ℕ) → p ≡ placeOf i n → p ≤ mostOf i
+  place-found p e = omega (arith, place-most)

@@ -1,6 +1,6 @@
 -- The machine's signed numbers: what it reads back is the number where that fits, and its few sums here are those of ℤ. Assumes nothing.
-use mathlib.Core.Path.{_≡_, refl, sym, ap, _∙_}
-use mathlib.Core.Bool.{true, false}
+use mathlib.Core.Path.{_≡_, sym, ap, _∙_}
+use mathlib.Core.Bool.{false}
 use Prim.Native.Nat.{ℕ, _+_, _≤_, _<_, _^_}
 use native.Mathlib.Omega.{arith}
 use lib.IntN.{ℤ, pos, negsuc, negℤ, natAbs, _+ℤ_, _-ℤ_, +ℤ-idl}
@@ -11,7 +11,7 @@ use mir.Val.{Fits, SFits, toZ, ofZ}
 use mir.Facts.{toZ-ofZ, toZ-pos}
 use Rattle.records.specs.ExactTime.{orZero}
 use Rattle.records.specs.Steps.{shortfall}
-use Rattle.records.proofs.Integers.{sum-most, opposite-above, opposite-below, is-negative, not-negative, itself}
+use Rattle.records.proofs.Integers.{sum-most, opposite-above, opposite-below, not-negative, itself}
 
 fits : (z : ℤ) → orZero z < 2 ^ 63 → shortfall z ≤ 2 ^ 63 → SFits w64 z
 fits (pos n) h k = record { sfits = h }
@@ -48,9 +48,6 @@ module _ (n : ℕ) (h : n < 2 ^ 63) where
 
 -- ---- a number as the machine holds it, against 0
 module _ (a : ℤ) (f : SFits w64 a) where
-  pub clip-below : ltZ (toZ w64 (ofZ w64 a)) (pos 0) ≡ true → 0 ≡ orZero a
-  clip-below h = sym (is-negative a (rw (toZ-ofZ f) at h))
-
   plain : ltZ (toZ w64 (ofZ w64 a)) (pos 0) ≡ false → toZ w64 (ofZ w64 a) ≡ pos (orZero a)
   plain h = toZ-ofZ f ∙ sym (itself a (not-negative a (rw (toZ-ofZ f) at h)))
 

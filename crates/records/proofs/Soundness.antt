@@ -1,27 +1,25 @@
 -- What the tests of soundness say, as facts on numbers, and the tests' values from such facts. Assumes nothing.
-use mathlib.Core.Path.{_≡_, refl, sym, ap, _∙_}
-use mathlib.Core.Bool.{Bool, true, false, not, _&&_}
+use mathlib.Core.Path.{_≡_}
+use mathlib.Core.Bool.{true, false}
 use Prim.Native.Nat.{ℕ, _+_, _*_, _≤_, _<_}
 use native.Mathlib.Omega.{arith}
-use lib.IntN.{ℤ, pos, _+ℤ_}
+use lib.IntN.{ℤ, pos}
 use lib.Dec.{ltb, leb}
-use lib.Signed.{ltZ, leZ}
-use borrow.Author.Tests.{leb-true, ltb-true, ltb-false, le-leb, lt-ltb, le-ltb}
+use lib.Signed.{leZ}
+use borrow.Author.Tests.{leb-true, ltb-true, le-leb, lt-ltb, le-ltb}
 use Rattle.quantity.specs.Ranges.{inRange, mostOf, leastOf}
 use Rattle.quantity.specs.declared.Item.the-variants.{GroupId, Class, StreamRate, Burst, Residence, Arrival}
-use Rattle.quantity.proofs.Booleans.{both, and-true, and-false}
+use Rattle.quantity.proofs.Booleans.{both, and-false}
 use Rattle.quantity.proofs.Ranges.{within, at-least, at-most}
-use Rattle.records.specs.ExactTime.{bitTime, tickTime, exactly, roundedUp, orZero, E-first}
+use Rattle.records.specs.ExactTime.{bitTime, tickTime, exactly, orZero, E-first}
 use Rattle.records.specs.Sound.{soundGroup, soundRegulator, sound}
 use Rattle.records.specs.Steps.{shortfall}
 use Rattle.records.specs.declared.Moment.{Moment}
 use Rattle.records.specs.declared.Group.{Group}
 use Rattle.records.specs.declared.Stream.{Stream}
-use Rattle.records.specs.declared.Regulator.{Regulator}
-use Rattle.records.specs.declared.Regulator.the-variants.{Unset, Bucket}
+use Rattle.records.specs.declared.Regulator.the-variants.{Bucket}
 use Rattle.quantity.specs.declared.Bits.{Bits}
-use Rattle.records.proofs.Integers.{sum, opposite-above, opposite-below, is-le, is-not-le, of-le, of-lt, of-not-lt, is-not-lt, not-negative}
-use Rattle.records.proofs.ExactTime.{before-first, not-before-first, sign, ticks-most}
+use Rattle.records.proofs.Integers.{opposite-above, opposite-below, is-le, is-not-le, of-le}
 
 -- ---- a group
 pub record GroupOk (g : Group) : Type 0 where
@@ -110,12 +108,6 @@ module _ (r G : ℕ) (b : Bits) (e : Moment) where
   pub part-out : r ≤ e .part → soundRegulator r G (Bucket b e) ≡ false
   unfolding soundRegulator
   part-out h = rw (le-ltb _ _ h, and-false (inRange Burst (b .0)))
-
-  pub empty-late : 0 < r → G < orZero (roundedUp r (exactly r e)) → soundRegulator r G (Bucket b e) ≡ false
-  unfolding soundRegulator
-  empty-late p h =
-      rw (is-not-le (exactly r e) (tickTime r G) (omega (arith, before-first r p (exactly r e) G h)))
-      (and-false (inRange Burst (b .0) && ltb (e .part) r && leZ (E-first (b .0)) (exactly r e)))
 
 -- ---- a stream with its group
 pub record SoundOk (s : Stream) (g : Group) : Type 0 where

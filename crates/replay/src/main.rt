@@ -15,7 +15,6 @@ use quantity::Ticks;
 use text::Numeral;
 use yard::End;
 use yard::Gathered;
-ghost use mathlib.Core.Path.{_≡_};
 ghost use Prim.Native.Nat.{_<_, _≤_};
 ghost use lib.ListN.{length};
 ghost use Rattle.io.specs.Counts.{Counts};

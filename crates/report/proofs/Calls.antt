@@ -17,7 +17,7 @@ use Rattle.quantity.specs.declared.Item.the-variants.{GroupId, StreamId}
 use Rattle.calls.specs.Calls.{groupPlaced, streamPlaced, judgedAt}
 use Rattle.calls.specs.Numbers.{setUpNumber}
 use Rattle.bridge.specs.Calls.{groupCalled, streamCalled, frameCalled}
-use Rattle.bridge.specs.History.{Call, group, stream, frame, Reply, reply, afterCall}
+use Rattle.bridge.specs.History.{Call, group, stream, frame, reply, afterCall}
 use Rattle.bridge.specs.declared.Bridge.{Bridge}
 use Rattle.calls.specs.declared.SetUp.{SetUp}
 use Rattle.calls.specs.declared.SetUp.the-variants as set-up

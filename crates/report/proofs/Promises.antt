@@ -8,27 +8,26 @@ use Prim.Native.Nat.{ℕ, zero, suc, _+_, _-_, _≤_, _<_}
 use native.Mathlib.Nat.{zero-add, sub-zero, add-assoc, add-zero}
 use native.Mathlib.Omega.{arith}
 use lib.Dec.{ltb}
-use lib.ListN.{length, take, drop, length-append, length-drop, length-take, take-append-drop}
-use lib.Seq.{drop-append-add, drop-drop, length-take-le, drop-append-le}
+use lib.ListN.{length, take, drop, length-append, take-append-drop}
+use lib.Seq.{drop-append-add, length-take-le}
 use Rattle.quantity.specs.declared.Refusal.{Refusal}
-use Rattle.quantity.specs.declared.Refusal.the-variants.{UnknownMark, CutShort}
+use Rattle.quantity.specs.declared.Refusal.the-variants.{CutShort}
 use Rattle.tablefile.specs.BigEndian.{AreBytes}
-use Rattle.tablefile.specs.Layout.{Kind, kinds, mark, kindOf, widths, total, size}
+use Rattle.tablefile.specs.Layout.{Kind, kinds, widths, total, size}
 use Rattle.reader.specs.Reader.{markedAmong, readFields, readMarked, readLeft, readAt}
 use Rattle.tablefile.specs.Answers.{nothingLeft, readingNumber}
-use Rattle.reader.specs.File.{Contents, onwards, contentsFrom, contents}
+use Rattle.reader.specs.File.{onwards, contentsFrom}
 use Rattle.tablefile.specs.declared.Record.{Record}
 use Rattle.tablefile.specs.declared.Record.the-variants as made
 use Rattle.tablefile.specs.declared.Reading.{Reading}
 use Rattle.tablefile.specs.declared.Reading.the-variants.{Found, NothingLeft, Refused}
 use Rattle.reader.proofs.Marks.{none-left}
-use Rattle.tablefile.proofs.Fields.{mark-width}
 use Rattle.reader.proofs.RoundTrip.{one-at-a-time, found-in-the-whole}
 use Rattle.records.specs.Numbers.{answerNumber, answerValues}
 use Rattle.records.specs.declared.Answer.{Answer}
 use Rattle.records.specs.declared.Answer.the-variants as answer
 use Rattle.bridge.specs.Calls.{frameCalled}
-use Rattle.bridge.specs.History.{Call, group, stream, frame, Reply, reply, afterCall}
+use Rattle.bridge.specs.History.{reply, afterCall}
 use Rattle.bridge.specs.declared.Bridge.{Bridge}
 use Rattle.lines.specs.Lines.{dash, column, ending}
 use Rattle.lines.specs.Places.{lineRoom}

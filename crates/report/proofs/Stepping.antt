@@ -1,7 +1,7 @@
 -- Laws of the listing's steps: where it goes on and where it ends, and what a step says of the record that was found. Assumes nothing.
 use mathlib.Core.Path.{_≡_, refl, sym, ap, _∙_}
-use mathlib.Core.Bool.{Bool, true, false, cond, _&&_}
-use mathlib.Core.List.{List, [], _∷_}
+use mathlib.Core.Bool.{Bool, true, false, cond}
+use mathlib.Core.List.{[], _∷_}
 use Prim.Native.Nat.{ℕ, _≤_, _<_}
 use native.Mathlib.Omega.{arith}
 use lib.Dec.{ltb, leb}
@@ -19,7 +19,6 @@ use Rattle.lines.specs.Places.{lineRoom, mostLines}
 use Rattle.report.specs.Parts.{Part, mayGoOn, goingOn}
 use Rattle.report.specs.Steps.{shownOf, frameAnswer, nextStep}
 use Rattle.lines.specs.declared.Shown.{Shown}
-use Rattle.lines.specs.declared.Answered.{Answered}
 use Rattle.report.specs.declared.Step.{Step}
 use Rattle.report.specs.declared.Step.the-variants.{Ends, Goes}
 

@@ -2,7 +2,7 @@
 use mathlib.Core.Path.{_≡_, refl, sym, ap, _∙_, subst}
 use mathlib.Core.List.{List, [], _∷_, _++_, append-nil, append-assoc}
 use Prim.Native.Nat.{ℕ, zero, suc, _+_, _-_, _≤_, _<_}
-use native.Mathlib.Nat.{zero-add, sub-zero}
+use native.Mathlib.Nat.{sub-zero}
 use native.Mathlib.Omega.{arith}
 use lib.ListN.{length, getD, drop, length-append, length-drop}
 use lib.Seq.{sets}
@@ -19,10 +19,9 @@ use Rattle.lines.specs.Lines.{valuesOf, lineOf}
 use Rattle.lines.specs.Places.{lineRoom, mostLines, linePut}
 use Rattle.lines.specs.Steps.{Put}
 use Rattle.report.specs.Records.{callOf, recordLine}
-use Rattle.report.specs.Parts.{Part, onto, mayGoOn, goingOn, stopsAt, partFor, partOf, ListedPart, listedOf, partPut, partListed}
+use Rattle.report.specs.Parts.{Part, onto, mayGoOn, goingOn, stopsAt, partFor, partOf, listedOf, partPut, partListed}
 use Rattle.report.specs.Steps.{replyOf, nextStep}
 use Rattle.lines.specs.declared.Answered.{Answered}
-use Rattle.report.specs.declared.Listed.{Listed}
 use Rattle.report.specs.declared.Step.the-variants.{Ends}
 use Rattle.lines.proofs.Texts.{put-then, put-length, line-short}
 use Rattle.lines.proofs.Placing.{line-is-put}

@@ -1,24 +1,23 @@
 -- A record that is set up: its test returns, one law each, and that it is sound. Assumes nothing.
-use mathlib.Core.Path.{_≡_, refl, sym, ap, _∙_}
-use mathlib.Core.Bool.{Bool, true, false, not, cond, _&&_}
-use Prim.Native.Nat.{ℕ, _+_, _*_, _≤_, _<_}
+use mathlib.Core.Path.{_≡_, refl}
+use mathlib.Core.Bool.{true, false}
+use Prim.Native.Nat.{ℕ, _<_}
 use native.Mathlib.Omega.{arith}
-use lib.IntN.{pos, negℤ}
-use Rattle.quantity.specs.Ranges.{inRange, leastOf, mostOf}
+use lib.IntN.{pos}
+use Rattle.quantity.specs.Ranges.{inRange}
 use Rattle.quantity.specs.declared.Item.the-variants.{GroupId, Class, StreamRate, Burst, Residence}
 use Rattle.quantity.specs.declared.Refusal.the-variants.{Unsound, NoGroup, RateRange, BurstRange, ResidenceRange, ClassRange}
 use Rattle.quantity.proofs.Booleans.{and-false}
 use Rattle.quantity.proofs.Ranges.{at-least, at-most}
-use Rattle.records.specs.ExactTime.{bitTime, exactly, momentOf, orZero, E-first}
+use Rattle.records.specs.ExactTime.{bitTime, exactly, momentOf, E-first}
 use Rattle.records.specs.Sound.{soundGroup, sound}
 use Rattle.setup.specs.SetUp.{freshGroup, freshStream, groupSetUp, streamSetUp}
-use Rattle.records.specs.Steps.{shortfall}
 use Rattle.records.specs.declared.Group.{Group}
 use Rattle.setup.specs.declared.GroupSetUp.the-variants as group
 use Rattle.setup.specs.declared.StreamSetUp.the-variants as stream
 use Rattle.records.proofs.Integers.{opposite-above, opposite-below}
 use Rattle.records.proofs.ExactTime.{exactly-of, part-of}
-use Rattle.records.proofs.Soundness.{GroupOk, group-ok, group-sound, bucket-sound, sound-of}
+use Rattle.records.proofs.Soundness.{group-ok, group-sound, bucket-sound, sound-of}
 
 -- ---- a group
 module _ (c M : ℕ) where

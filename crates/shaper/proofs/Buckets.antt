@@ -18,7 +18,7 @@ use Rattle.records.proofs.ExactTime.{ticks-most}
 use Rattle.records.proofs.Soundness.{BucketOk, bucket-ok}
 use Rattle.admission.specs.Tests.{aboveBurst}
 use Rattle.shaper.specs.Frame.{F}
-use Rattle.shaper.specs.Steps.{latestRelease, Works, BucketWorks}
+use Rattle.shaper.specs.Steps.{latestRelease, Works}
 
 -- ---- a sound regulator can be reckoned by
 pub full-zero : (E : ℤ) (b : ℕ) → shortfall E ≤ orZero E + bitTime b → shortfall (F E b) ≡ 0

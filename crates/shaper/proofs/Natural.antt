@@ -1,34 +1,30 @@
 -- A bucket in ℕ. In r-ths of a tick let X = F, that is E·r + b·10⁹: a natural number, 0 at the start. Then T is the least whole tick t from A and G on
 -- with X + L·10⁹ ≤ t·r + b·10⁹, and after a release X is max X (T·r) + L·10⁹. So sound records stay sound. Assumes nothing.
-use mathlib.Core.Path.{_≡_, refl, sym, ap, _∙_}
+use mathlib.Core.Path.{_≡_, refl, ap, _∙_}
 use mathlib.Core.Bool.{Bool, true, false, cond}
-use Prim.Native.Nat.{ℕ, _+_, _*_, _%_, _^_, _≤_, _<_, max}
+use Prim.Native.Nat.{ℕ, _+_, _*_, _≤_, _<_, max}
 use native.Mathlib.Nat.{mul-le-mul-right}
 use native.Mathlib.Omega.{arith}
 use lib.IntN.{ℤ, pos, _+ℤ_, _-ℤ_}
 use lib.Dec.{ltb}
 use lib.Signed.{ltZ}
-use borrow.Author.Tests.{ltb-true, ltb-false}
-use Rattle.quantity.specs.Ranges.{leastOf, mostOf}
-use Rattle.quantity.specs.declared.Item.the-variants.{StreamRate, Arrival}
-use Rattle.quantity.specs.declared.Bits.{Bits}
+use borrow.Author.Tests.{ltb-false}
+use Rattle.quantity.specs.declared.Item.the-variants.{Arrival}
 use Rattle.quantity.proofs.Ranges.{at-most}
-use Rattle.records.specs.ExactTime.{bitTime, tickTime, exactly, momentOf, roundedUp, orZero, E-first}
+use Rattle.records.specs.ExactTime.{bitTime, tickTime, exactly, momentOf, orZero, E-first}
 use Rattle.shaper.specs.Frame.{burstOf, S, F, E-after, earliest, afterRelease, eligibilityTime, discarded, released, settled, processFrame}
 use Rattle.records.specs.Sound.{soundGroup, soundRegulator, sound}
-use Rattle.shaper.specs.Numbers.{judged}
 use Rattle.admission.specs.Tests.{aboveBurst}
 use Rattle.quantity.specs.Charge.{charged}
 use Rattle.setup.specs.SetUp.{freshStream}
 use Rattle.records.specs.Steps.{shortfall}
-use Rattle.records.specs.declared.Moment.{Moment}
 use Rattle.records.specs.declared.Group.{Group}
 use Rattle.records.specs.declared.Stream.{Stream}
 use Rattle.records.specs.declared.Regulator.{Regulator}
 use Rattle.records.specs.declared.Regulator.the-variants.{Unset, Bucket}
 use Rattle.records.proofs.Integers.{sum, difference, of-lt, of-not-lt, opposite-above, opposite-below}
 use Rattle.records.proofs.ExactTime.{not-before-first, first-least, exactly-of, part-of}
-use Rattle.records.proofs.Soundness.{GroupOk, group-ok, group-sound, BucketOk, bucket-ok, bucket-sound, SoundOk, sound-ok, sound-of}
+use Rattle.records.proofs.Soundness.{group-ok, bucket-ok, bucket-sound, SoundOk, sound-ok, sound-of}
 use Rattle.shaper.proofs.Buckets.{full-zero, full-below}
 use Rattle.admission.proofs.Tests.{Passes}
 

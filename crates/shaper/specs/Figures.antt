@@ -2,7 +2,7 @@
 -- M is the residence limit of group 0; r, b the rate and burst of a stream; n a frame's octets, A its arrival.
 use Prim.Native.Nat.{ℕ, zero, suc}
 use mathlib.Core.Path.{_≡_, refl}
-use mathlib.Core.List.{List, [], _∷_, map}
+use mathlib.Core.List.{List, [], _∷_}
 use lib.IntN.{ℤ, pos, negℤ}
 use Rattle.quantity.specs.Ranges.{inRange}
 use Rattle.quantity.specs.Charge.{chargedBits}

@@ -2,12 +2,11 @@
 // back; and a decimal number is read from lent bytes. The programs' lines are made of these. No file and no record
 // lives here.
 ghost use mathlib.Core.Path.{_≡_};
-ghost use mathlib.Core.Bool.{Bool};
 ghost use Prim.Native.Nat.{_+_, _-_, _*_, _≤_, _<_, min};
 ghost use lib.ListN.{length};
 ghost use lib.Seq.{sets};
 ghost use Rattle.text.specs.Decimal.{lastDigits, digitCount, decimal};
-ghost use Rattle.text.specs.Places.{Placed, placed};
+ghost use Rattle.text.specs.Places.{placed};
 ghost use Rattle.text.specs.Numeral.{most, isDigit, numeralOf};
 
 // The largest number of 64 bits.

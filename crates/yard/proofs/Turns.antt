@@ -1,15 +1,14 @@
 -- A gathering, record by record: what the loop keeps, and one law for each way through a turn. Assumes nothing.
 use mathlib.Core.Path.{_≡_, refl, sym, ap, _∙_, subst}
-use mathlib.Core.Bool.{Bool, true, false, cond, _&&_}
+use mathlib.Core.Bool.{Bool, true, false, _&&_}
 use mathlib.Core.List.{List}
 use Prim.Native.Nat.{ℕ, zero, suc, _+_, _≤_, _<_}
 use native.Mathlib.Omega.{arith}
 use lib.Dec.{ltb}
-use lib.ListN.{length, set, drop, length-append, length-drop, length-set}
+use lib.ListN.{length, drop, length-append, length-drop, length-set}
 use borrow.Author.Tests.{ltb-true, lt-ltb, le-ltb}
 use Rattle.quantity.specs.declared.Refusal.{Refusal}
 use Rattle.quantity.specs.declared.Ticks.{Ticks}
-use Rattle.quantity.specs.declared.Rate.{Rate}
 use Rattle.quantity.proofs.Booleans.{both}
 use Rattle.tablefile.specs.Layout.{mark, widths, recordOf, fieldNumbers, size}
 use Rattle.reader.specs.Reader.{readAt}
@@ -20,13 +19,11 @@ use Rattle.tablefile.specs.declared.Reading.the-variants as reading
 use Rattle.tablefile.proofs.Fields.{mark-width}
 use Rattle.reader.proofs.Marks.{none-left}
 use Rattle.reader.proofs.OneRecord.{Front, empty, cut, strange, whole, front}
-use Rattle.bridge.specs.Calls.{groupCalled, streamCalled}
-use Rattle.bridge.specs.declared.Bridge.{Bridge}
 use Rattle.bridge.specs.declared.BridgeSetUp.{BridgeSetUp}
 use Rattle.calls.specs.declared.SetUp.{SetUp}
 use Rattle.calls.specs.declared.SetUp.the-variants.{Done, Refused}
 use Rattle.yard.specs.declared.End.{End}
-use Rattle.yard.specs.declared.End.the-variants.{NothingLeft, Unreadable, NotSetUp, ListsFull}
+use Rattle.yard.specs.declared.End.the-variants.{NothingLeft, NotSetUp, ListsFull}
 use Rattle.yard.specs.declared.Task.{Task}
 use Rattle.yard.specs.declared.Task.the-variants.{Ends, Sets, Frame}
 use Rattle.yard.specs.declared.Wanted.{Wanted}

@@ -5,7 +5,6 @@ use mathlib.Core.Bool.{Bool, cond, _&&_}
 use mathlib.Core.List.{List}
 use lib.Dec.{ltb}
 use lib.ListN.{length, set}
-use Rattle.quantity.specs.declared.Refusal.{Refusal}
 use Rattle.reader.specs.Reader.{readAt}
 use Rattle.tablefile.specs.Meaning.{defaultResidence}
 use Rattle.tablefile.specs.declared.Record.{Record}

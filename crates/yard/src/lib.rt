@@ -13,10 +13,8 @@ use records::Stream;
 use tablefile::Reading;
 use tablefile::Record;
 ghost use mathlib.Core.Path.{_≡_};
-ghost use mathlib.Core.Bool.{Bool};
 ghost use Prim.Native.Nat.{_+_, _≤_};
 ghost use lib.ListN.{length};
-ghost use Rattle.reader.specs.Reader.{readAt};
 ghost use Rattle.yard.specs.Gathering.{hasRoom, taskOf, taskFor, gatherFrom, begun};
 ghost use Rattle.yard.specs.Steps.{taskAfter, streamOf, groupOf, preparedBy};
 

@@ -1,7 +1,7 @@
 -- `admission::is_sound` meets its contract: each return has the tests that led there. Assumes nothing.
 use borrow.Author.Needs.{needs}
 use mathlib.Core.Path.{_≡_, sym, ap, _∙_}
-use mathlib.Core.Bool.{true, _&&_}
+use mathlib.Core.Bool.{true}
 use Rattle.quantity.specs.Ranges.{inRange}
 use Rattle.quantity.specs.declared.Item.the-variants.{GroupId, StreamRate}
 use Rattle.quantity.proofs.Booleans.{refuted, confirmed}

@@ -1,6 +1,6 @@
 -- `admission::sound_bucket` meets its contract: each return is a law of soundness. Assumes nothing.
 use borrow.Author.Needs.{needs}
-use mathlib.Core.Path.{_≡_, sym, ap, _∙_}
+use mathlib.Core.Path.{_≡_, sym, _∙_}
 use mathlib.Core.Bool.{true}
 use native.Mathlib.Omega.{arith}
 use Rattle.quantity.specs.Ranges.{inRange}

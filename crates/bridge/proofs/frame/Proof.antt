@@ -1,12 +1,9 @@
 -- `bridge::frame` meets its contract. Assumes nothing.
 use borrow.Author.Needs.{needs}
-use mathlib.Core.Path.{_∙_}
 use Prim.Native.Nat.{_<_}
 use native.Mathlib.Omega.{arith}
-use lib.ListN.{getD}
-use Rattle.bridge.specs.Tables.{noStream}
 use Rattle.quantity.specs.declared.Item.the-variants.{GroupId, StreamId}
-use Rattle.quantity.proofs.Ranges.{place-most}
+use Rattle.quantity.proofs.Ranges.{place-found}
 use Rattle.bridge.proofs.Tables.{frame-call}
 use Rattle.bridge.proofs.frame.Statement.{statement}
 use Rattle.bridge.proofs.frame.Tie as tie
@@ -15,7 +12,7 @@ place-of-requires : tie.Need-place-of-requires
 place-of-requires c κs = search needs
 
 below : (c : tie.After-place-of) → c .place-of .result < 64
-below c = omega (arith, c .place-of .ensures, place-most StreamId (c .before .before .before .args .id))
+below c = omega (arith, place-found StreamId _ _ (c .place-of .ensures))
 
 mul-stream : tie.Need-mul-stream
 mul-stream c = omega (arith, below c)
@@ -27,7 +24,7 @@ place-of-requires-2 : tie.Need-place-of-requires-2
 place-of-requires-2 c κs = search needs
 
 group-in : (c : tie.After-place-of2) → c .place-of2 .result < 16
-group-in c = omega (arith, c .place-of2 .ensures, place-most GroupId (getD (c .before .before .before .before .before .args .bridge .streams) (c .before .before .place-of .result) noStream .group))
+group-in c = omega (arith, place-found GroupId _ _ (c .place-of2 .ensures))
 
 mul-judge-at : tie.Need-mul-judge-at
 mul-judge-at c = omega (arith, group-in c)

@@ -1,10 +1,9 @@
 -- `bridge::set_up_group` meets its contract. Assumes nothing.
 use borrow.Author.Needs.{needs}
-use mathlib.Core.Path.{_∙_}
 use Prim.Native.Nat.{_<_}
 use native.Mathlib.Omega.{arith}
 use Rattle.quantity.specs.declared.Item.the-variants.{GroupId}
-use Rattle.quantity.proofs.Ranges.{place-most}
+use Rattle.quantity.proofs.Ranges.{place-found}
 use Rattle.bridge.proofs.Tables.{group-call}
 use Rattle.bridge.proofs.set_up_group.Statement.{statement}
 use Rattle.bridge.proofs.set_up_group.Tie as tie
@@ -13,7 +12,7 @@ place-of-requires : tie.Need-place-of-requires
 place-of-requires c κs = search needs
 
 below : (c : tie.After-place-of) → c .place-of .result < 16
-below c = omega (arith, c .place-of .ensures, place-most GroupId (c .before .before .before .args .id))
+below c = omega (arith, place-found GroupId _ _ (c .place-of .ensures))
 
 mul-place-group : tie.Need-mul-place-group
 mul-place-group c = omega (arith, below c)

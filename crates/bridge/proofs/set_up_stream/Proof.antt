@@ -1,10 +1,9 @@
 -- `bridge::set_up_stream` meets its contract. Assumes nothing.
 use borrow.Author.Needs.{needs}
-use mathlib.Core.Path.{_∙_}
 use Prim.Native.Nat.{_<_}
 use native.Mathlib.Omega.{arith}
 use Rattle.quantity.specs.declared.Item.the-variants.{GroupId, StreamId}
-use Rattle.quantity.proofs.Ranges.{place-most}
+use Rattle.quantity.proofs.Ranges.{place-found}
 use Rattle.bridge.proofs.Tables.{stream-call}
 use Rattle.bridge.proofs.set_up_stream.Statement.{statement}
 use Rattle.bridge.proofs.set_up_stream.Tie as tie
@@ -16,10 +15,10 @@ place-of-requires-2 : tie.Need-place-of-requires-2
 place-of-requires-2 c κs = search needs
 
 below : (c : tie.After-place-of) → c .place-of .result < 64
-below c = omega (arith, c .place-of .ensures, place-most StreamId (c .before .before .before .args .id))
+below c = omega (arith, place-found StreamId _ _ (c .place-of .ensures))
 
 group-in : (c : tie.After-place-of2) → c .place-of2 .result < 16
-group-in c = omega (arith, c .place-of2 .ensures, place-most GroupId (c .before .before .before .before .args .group))
+group-in c = omega (arith, place-found GroupId _ _ (c .place-of2 .ensures))
 
 mul-place-stream : tie.Need-mul-place-stream
 mul-place-stream c = omega (arith, below (c .before))

@@ -1,6 +1,5 @@
 -- `calls::place_group` meets its contract: each return has the tests that led there. Assumes nothing.
 use borrow.Author.Needs.{needs}
-use borrow.Author.Tests.{not-true}
 use mathlib.Core.Path.{_≡_, sym, ap, _∙_}
 use mathlib.Core.Bool.{true}
 use Rattle.quantity.specs.Ranges.{inRange}

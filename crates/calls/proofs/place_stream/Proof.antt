@@ -1,11 +1,10 @@
 -- `calls::place_stream` meets its contract: each return has the tests that led there. Assumes nothing.
 use borrow.Author.Needs.{needs}
 use mathlib.Core.Path.{_≡_, sym, ap, _∙_}
-use mathlib.Core.Bool.{true, false}
+use mathlib.Core.Bool.{true}
 use Rattle.quantity.specs.Ranges.{inRange}
 use Rattle.quantity.specs.declared.Item.the-variants.{StreamId}
 use Rattle.quantity.proofs.Booleans.{refuted, confirmed}
-use Rattle.records.specs.Numbers.{isSetUp}
 use Rattle.calls.specs.Calls.{streamTaken}
 use Rattle.calls.proofs.Returns.{stream-id-out, stream-before, stream-taken}
 use Rattle.calls.proofs.place_stream.Statement.{statement}

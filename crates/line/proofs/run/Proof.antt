@@ -1,6 +1,6 @@
 -- `line::run` meets its contract: refused by the tests, or event by event. Assumes nothing.
 use borrow.Author.Needs.{needs}
-use mathlib.Core.Path.{_≡_, sym, _∙_}
+use mathlib.Core.Path.{sym, _∙_}
 use Rattle.line.specs.Run.{begun, startAt}
 use Rattle.line.proofs.Turns.{gives-run, gives-refused, refuses, all-fit}
 use Rattle.line.proofs.run.Statement.{statement}

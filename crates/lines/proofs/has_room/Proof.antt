@@ -1,5 +1,4 @@
 -- `lines::has_room` meets its contract. Assumes nothing.
-use borrow.Author.Needs.{needs}
 use borrow.Author.Tests.{lt-leb}
 use mathlib.Core.Path.{sym}
 use Prim.Native.Nat.{_+_}

@@ -1,13 +1,12 @@
 -- `lines::put_count` meets its contract: `end`, a space, the count and the line's end stand one after the other. Assumes nothing.
 use borrow.Author.Needs.{needs}
-use mathlib.Core.Path.{_≡_, refl, sym, ap, _∙_}
-use Prim.Native.Nat.{ℕ, _+_, _≤_, _<_}
+use mathlib.Core.Path.{_≡_, refl, _∙_}
+use Prim.Native.Nat.{_+_, _≤_}
 use native.Mathlib.Numerals.{towards-suc}
 use native.Mathlib.Omega.{arith}
-use mathlib.Core.List.{List, [], _∷_, _++_, append-assoc}
-use lib.ListN.{length, set, length-set}
+use mathlib.Core.List.{[], _∷_, _++_}
+use lib.ListN.{length, length-set}
 use Rattle.text.specs.Decimal.{decimal}
-use Rattle.lines.specs.Steps.{Put}
 use Rattle.lines.specs.Lines.{newline, endLine}
 use Rattle.lines.proofs.Texts.{put-then, put-length, put-decimal, decimal-room}
 use Rattle.lines.proofs.put_count.Statement.{statement}

@@ -1,6 +1,6 @@
 -- `lines::put_number` meets its contract. Assumes nothing.
 use borrow.Author.Needs.{needs}
-use mathlib.Core.Path.{_≡_, refl}
+use mathlib.Core.Path.{refl}
 use native.Mathlib.Omega.{arith}
 use Rattle.lines.proofs.Texts.{put-text, put-byte-decimal, one-digit}
 use Rattle.lines.proofs.put_number.Statement.{statement}

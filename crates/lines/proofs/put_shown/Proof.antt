@@ -1,11 +1,7 @@
 -- `lines::put_shown` meets its contract. Assumes nothing.
 use borrow.Author.Needs.{needs}
-use mathlib.Core.Path.{_≡_, refl, sym, ap, _∙_}
-use Prim.Native.Nat.{ℕ, _+_, _≤_, _<_}
-use native.Mathlib.Numerals.{towards-suc}
+use mathlib.Core.Path.{refl, sym, ap}
 use native.Mathlib.Omega.{arith}
-use mathlib.Core.List.{List, [], _∷_, _++_, append-assoc}
-use lib.ListN.{length, set, length-set}
 use Rattle.lines.specs.Lines.{valuesOf, column}
 use Rattle.lines.specs.declared.Shown.{Shown}
 use Rattle.lines.proofs.Texts.{put-text, put-decimal}

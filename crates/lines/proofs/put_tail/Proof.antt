@@ -1,13 +1,11 @@
 -- `lines::put_tail` meets its contract: the number, a space, the last column and the line's end stand one after the other. Assumes nothing.
 use borrow.Author.Needs.{needs}
-use mathlib.Core.Path.{_≡_, refl, sym, ap, _∙_}
-use Prim.Native.Nat.{ℕ, _+_, _≤_, _<_}
-use native.Mathlib.Numerals.{towards-suc}
+use mathlib.Core.Path.{_≡_, refl, _∙_}
+use Prim.Native.Nat.{_+_, _≤_}
 use native.Mathlib.Omega.{arith}
-use mathlib.Core.List.{List, [], _∷_, _++_, append-assoc}
-use lib.ListN.{length, set, length-set}
+use mathlib.Core.List.{[], _∷_, _++_}
+use lib.ListN.{length, length-set}
 use Rattle.text.specs.Decimal.{decimal}
-use Rattle.lines.specs.Steps.{Put}
 use Rattle.lines.specs.Lines.{space, newline, valuesOf, column}
 use Rattle.lines.proofs.Texts.{put-then, put-length, byte-short, column-short}
 use Rattle.lines.proofs.put_tail.Statement.{statement}

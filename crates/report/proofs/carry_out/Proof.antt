@@ -1,6 +1,6 @@
 -- `report::carry_out` meets its contract: in each arm the call is the arm's. Assumes nothing.
 use borrow.Author.Needs.{needs}
-use mathlib.Core.Path.{_≡_, refl, sym, ap, _∙_}
+use mathlib.Core.Path.{sym, ap, _∙_}
 use Rattle.report.specs.Records.{callOf}
 use Rattle.report.specs.Steps.{carriedOut}
 use Rattle.tablefile.specs.declared.Record.{Record}

@@ -1,11 +1,11 @@
 -- `report::list_part` meets its contract: each turn of the loop is a record of the definition. Assumes nothing.
 use borrow.Author.Needs.{needs}
-use mathlib.Core.Path.{_≡_, refl, sym, _∙_}
-use Prim.Native.Nat.{ℕ, _+_, _-_, _≤_, _<_}
+use mathlib.Core.Path.{sym, _∙_}
+use Prim.Native.Nat.{_-_, _≤_, _<_}
 use native.Mathlib.Omega.{arith}
 use lib.ListN.{length}
 use Rattle.quantity.specs.declared.Item.the-variants.{GroupId, StreamId}
-use Rattle.quantity.proofs.Ranges.{place-most}
+use Rattle.quantity.proofs.Ranges.{place-found}
 use Rattle.report.proofs.Stepping.{Going, going}
 use Rattle.report.proofs.Calls.{call-after, call-replies}
 use Rattle.report.proofs.Underway.{Underway, starts, stops, goes-further, turns}
@@ -63,10 +63,10 @@ further : (c : tie.After-step2 Inv-loop μ-loop) → let l = c .before .before .
 further c = let n = c .before .before in goes-further _ _ _ _ _ _ _ _ _ (n .before .before .loop .inv) _ (n .before .read .ensures) _ _ (goes c)
 
 stream-in : (c : tie.After-place-of Inv-loop μ-loop) → c .place-of .result < 64
-stream-in c = omega (arith, c .place-of .ensures, place-most StreamId (c .before .stream-of .result))
+stream-in c = omega (arith, place-found StreamId _ _ (c .place-of .ensures))
 
 group-in : (c : tie.After-place-of2 Inv-loop μ-loop) → c .place-of2 .result < 16
-group-in c = omega (arith, c .place-of2 .ensures, place-most GroupId (c .before .group-of .result))
+group-in c = omega (arith, place-found GroupId _ _ (c .place-of2 .ensures))
 
 mul-stream : tie.Need-mul-stream Inv-loop μ-loop
 mul-stream c = omega (arith, stream-in c)

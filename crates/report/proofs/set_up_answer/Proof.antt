@@ -1,8 +1,7 @@
 -- `report::set_up_answer` meets its contract. Assumes nothing.
 use borrow.Author.Needs.{needs}
-use mathlib.Core.Path.{_≡_, refl, sym, ap, _∙_}
+use mathlib.Core.Path.{ap}
 use Prim.Native.Nat.{ℕ}
-use Rattle.lines.specs.declared.Answered.{Answered}
 use Rattle.lines.specs.declared.Shown.the-variants.{Dash}
 use Rattle.report.specs.Steps.{setUpAnswer}
 use Rattle.report.proofs.set_up_answer.Statement.{statement}

@@ -1,6 +1,5 @@
 -- `setup::fresh_stream` meets its contract. Assumes nothing.
-use borrow.Author.Needs.{needs}
-use mathlib.Core.Path.{sym, ap, _∙_}
+use mathlib.Core.Path.{ap, _∙_}
 use Prim.Native.Nat.{ℕ}
 use native.Mathlib.Nat.{div-add-mod', mod-lt, div-le-self}
 use native.Mathlib.Omega.{arith}

@@ -1,11 +1,11 @@
 -- `yard::gather_part` meets its contract: each turn of the loop is a record of the definition. Assumes nothing.
 use borrow.Author.Needs.{needs}
-use mathlib.Core.Path.{_≡_, refl}
+use mathlib.Core.Path.{refl}
 use mathlib.Core.List.{List}
 use Prim.Native.Nat.{ℕ, _-_, _*_, _<_, _≤_}
 use native.Mathlib.Omega.{arith}
 use lib.ListN.{length}
-use Rattle.yard.specs.Gathering.{State, ended, begun, setUpTaken, frameTaken}
+use Rattle.yard.specs.Gathering.{ended, begun, setUpTaken, frameTaken}
 use Rattle.yard.proofs.Turns.{Gathers, starts, Room, Turn, turn, turn-ends, sets-within, turn-sets, frame-room, frame-within, turn-takes}
 use Rattle.yard.proofs.Preparing.{stream-found, group-found, call-is}
 use Rattle.yard.proofs.gather_part.Statement.{statement}

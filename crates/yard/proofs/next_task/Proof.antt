@@ -1,6 +1,6 @@
 -- `yard::next_task` meets its contract: each arm has the answer that led there. Assumes nothing.
 use borrow.Author.Needs.{needs}
-use mathlib.Core.Path.{_≡_, sym, ap, _∙_}
+use mathlib.Core.Path.{sym, ap, _∙_}
 use Rattle.yard.specs.Gathering.{taskFor}
 use Rattle.yard.proofs.Turns.{after-done, after-refused}
 use Rattle.yard.proofs.next_task.Statement.{statement}

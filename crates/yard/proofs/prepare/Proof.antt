@@ -1,6 +1,6 @@
 -- `yard::prepare` meets its contract: in each arm the call is the arm's. Assumes nothing.
 use borrow.Author.Needs.{needs}
-use mathlib.Core.Path.{_≡_, sym, ap, _∙_}
+use mathlib.Core.Path.{sym, ap, _∙_}
 use Rattle.yard.specs.Steps.{groupPrepared, streamPrepared, preparedBy}
 use Rattle.yard.specs.declared.Wanted.{Wanted}
 use Rattle.yard.proofs.prepare.Statement.{statement}

@@ -1,6 +1,6 @@
 -- `shaper::frame::judge` meets its contract: refused by the tests, or processed. Assumes nothing.
 use borrow.Author.Needs.{needs}
-use mathlib.Core.Path.{_≡_, sym, ap, subst, _∙_}
+use mathlib.Core.Path.{sym, ap, subst, _∙_}
 use Prim.Native.Nat.{ℕ}
 use Rattle.admission.specs.Tests.{aboveBurst}
 use Rattle.admission.proofs.Tests.{Said, said}
