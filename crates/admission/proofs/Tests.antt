@@ -5,6 +5,7 @@ use Prim.Native.Nat.{ℕ, _≤_, _<_}
 use native.Mathlib.Omega.{arith}
 use lib.Dec.{ltb}
 use borrow.Author.Tests.{lt-ltb, le-ltb, ltb-true, ltb-false}
+use Rattle.quantity.specs.Kinds.{bits}
 use Rattle.quantity.specs.Charge.{charged}
 use Rattle.quantity.specs.Ranges.{inRange}
 use Rattle.quantity.specs.Numbers.{numberOf}
@@ -49,7 +50,7 @@ module _ (s : Stream) (g : Group) (n A : ℕ) where
             unfolding tested
             test-14 h = simp (u, k, o, b, a, lt-ltb _ _ h)
 
-            pub none-refuses : g .last .0 ≤ A → tested s g n A ≡ Charged (record { 0 = charged n })
+            pub none-refuses : g .last .0 ≤ A → tested s g n A ≡ Charged (bits (charged n))
             unfolding tested
             none-refuses h = simp (u, k, o, b, a, le-ltb _ _ h)
 

@@ -3,6 +3,7 @@
 use Prim.Native.Nat.{ℕ}
 use mathlib.Core.Bool.{Bool, false, not, cond}
 use lib.Dec.{ltb}
+use Rattle.quantity.specs.Kinds.{bits}
 use Rattle.quantity.specs.Charge.{charged}
 use Rattle.quantity.specs.Ranges.{inRange}
 use Rattle.quantity.specs.declared.Item.the-variants.{Octets, Arrival}
@@ -30,4 +31,4 @@ tested s g n A =
     (cond (aboveBurst (s .regulator) (charged n)) (Refused AboveBurst)
     (cond (not (inRange Arrival A)) (Refused TooLate)
     (cond (ltb A (g .last .0)) (Refused BeforeLast)
-    (Charged (record { 0 = charged n })))))))
+    (Charged (bits (charged n))))))))

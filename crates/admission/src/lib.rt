@@ -5,6 +5,7 @@ use quantity::Item;
 use quantity::ORDINARY_OVERHEAD;
 use quantity::Rate;
 use quantity::Refusal;
+use quantity::TICKS_PER_SECOND;
 use quantity::Ticks;
 use quantity::charge;
 use quantity::in_range;
@@ -56,7 +57,7 @@ fn not_before_first(burst: Bits, empty: Moment, rate: Rate) -> bool
     if ticks >= 0 {
         return true;
     }
-    let most = (burst.0 * 1_000_000_000 + empty.part) / rate.0;
+    let most = (burst.0 * TICKS_PER_SECOND + empty.part) / rate.0;
     ticks + (most as i64) >= 0
 }
 

@@ -1,9 +1,10 @@
 -- Document 01, 'How tight each guarantee is': the history of calls on a bridge, and the judged frames in it.
 -- b is a bridge, i a stream's or group's id, c a class, M a residence limit, k a stream's group, r a rate, u a burst, n a frame's octets, A its arrival.
 use Prim.Native.Nat.{ℕ, _+_, _*_, _≤_}
-use mathlib.Core.Bool.{Bool, cond, _&&_}
+use mathlib.Core.Bool.{cond, _&&_}
 use mathlib.Core.List.{List, [], _∷_, _++_}
 use lib.Dec.{leb, eqb}
+use Rattle.quantity.specs.Kinds.{ticksPerSecond}
 use Rattle.shaper.specs.Frame.{burstOf}
 use Rattle.quantity.specs.Charge.{charged}
 use Rattle.records.specs.Numbers.{answerNumber, answerValues}
@@ -122,4 +123,4 @@ bitsIn i lo hi (e ∷ es) = cond (eqb (e .stream) i && leb lo (e .tick) && leb (
 
 -- in every span the bits of stream i, times 10⁹, are at most u·10⁹ plus r times the span's ticks
 unfoldable pub WithinBurstAndRate : ℕ → ℕ → ℕ → List Sent → Type 0
-WithinBurstAndRate u r i es = (lo d : ℕ) → bitsIn i lo (lo + d) es * 1_000_000_000 ≤ u * 1_000_000_000 + r * d
+WithinBurstAndRate u r i es = (lo d : ℕ) → bitsIn i lo (lo + d) es * ticksPerSecond ≤ u * ticksPerSecond + r * d

@@ -3,8 +3,7 @@
 use Prim.Native.Nat.{ℕ}
 use mathlib.Core.Bool.{false}
 use lib.ListN.{getD, set, replicate}
-use Rattle.quantity.specs.declared.Rate.{Rate}
-use Rattle.records.specs.ExactTime.{ticks}
+use Rattle.quantity.specs.Kinds.{ticks, perSecond}
 use Rattle.records.specs.declared.Group.{Group}
 use Rattle.records.specs.declared.Stream.{Stream}
 use Rattle.records.specs.declared.Regulator.the-variants.{Unset}
@@ -15,7 +14,7 @@ abbrev pub noGroup : Group
 noGroup = record { used = false; class = 0; residence = ticks 0; time = ticks 0; last = ticks 0; discards = 0 }
 
 abbrev pub noStream : Stream
-noStream = record { group = 0; rate = record { 0 = 0 }; regulator = Unset }
+noStream = record { group = 0; rate = perSecond 0; regulator = Unset }
 
 -- nothing is set up at the start
 unfoldable pub freshBridge : Bridge

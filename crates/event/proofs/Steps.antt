@@ -7,11 +7,11 @@ use native.Mathlib.Omega.{arith}
 use lib.Dec.{ltb, leb}
 use lib.ListN.{length, getD}
 use borrow.Author.Tests.{leb-false, ltb-true, ltb-false, lt-leb, le-leb, lt-ltb, le-ltb}
+use Rattle.quantity.specs.Kinds.{ticks}
 use Rattle.quantity.specs.Ranges.{inRange}
 use Rattle.quantity.specs.declared.Item.the-variants.{PickMoment}
 use Rattle.quantity.specs.declared.Refusal.{Refusal}
 use Rattle.quantity.specs.declared.Ticks.{Ticks}
-use Rattle.places.specs.Queue.{ticks}
 use Rattle.firsts.specs.declared.Smallest.{Smallest}
 use Rattle.firsts.specs.declared.Smallest.the-variants.{Time, NothingWaits}
 use Rattle.event.specs.Next.{arrivesBy, atCandidate, nextEvent, Event, arrival, pick, none, arrivalStep, pickStep, stepFor}

@@ -5,10 +5,10 @@ use mathlib.Core.Bool.{Bool, cond, not, _&&_, _||_}
 use mathlib.Core.List.{List}
 use lib.Dec.{ltb, leb}
 use lib.ListN.{length, getD}
+use Rattle.quantity.specs.Kinds.{ticks}
 use Rattle.quantity.specs.Ranges.{inRange}
 use Rattle.quantity.specs.Numbers.{numberOf}
 use Rattle.quantity.specs.declared.Item.the-variants.{PickMoment}
-use Rattle.places.specs.Queue.{ticks}
 use Rattle.firsts.specs.declared.Smallest.{Smallest}
 use Rattle.firsts.specs.declared.Smallest.the-variants.{Time, NothingWaits}
 use Rattle.event.specs.declared.Stop.{Stop}

@@ -6,9 +6,9 @@ use mathlib.Core.Logic.{inl, inr}
 use Prim.Native.Nat.{_≤_}
 use native.Mathlib.Omega.{arith}
 use Rattle.quantity.specs.Ranges.{inRange}
-use Rattle.quantity.specs.Numbers.{numberOf}
+use Rattle.quantity.specs.Numbers.{leastRefusal}
 use Rattle.quantity.specs.declared.Item.the-variants.{GroupId, StreamId}
-use Rattle.quantity.specs.declared.Refusal.the-variants.{Unsound, IdRange, SetUpBefore}
+use Rattle.quantity.specs.declared.Refusal.the-variants.{IdRange, SetUpBefore}
 use Rattle.records.specs.Numbers.{isSetUp}
 use Rattle.setup.specs.SetUp.{groupSetUp, streamSetUp}
 use Rattle.records.specs.declared.Answer.the-variants.{Refused}
@@ -41,7 +41,7 @@ refused-stays-for-C i g ss k n A t low = go (ended i (groupOf g) (map streamOf s
 
 -- ---- the set-ups that C calls
 module _ (g : GroupRecord) where
-  refused-group : (x y : Bool) (p : GroupSetUp) → numberOf Unsound ≤ groupTold (cond (not x) (record { answer = SetUp.Refused IdRange; group = groupOf g }) (cond y (record { answer = SetUp.Refused SetUpBefore; group = groupOf g }) (groupTaken (groupOf g) p))) .number → groupTold (cond (not x) (record { answer = SetUp.Refused IdRange; group = groupOf g }) (cond y (record { answer = SetUp.Refused SetUpBefore; group = groupOf g }) (groupTaken (groupOf g) p))) .group ≡ g
+  refused-group : (x y : Bool) (p : GroupSetUp) → leastRefusal ≤ groupTold (cond (not x) (record { answer = SetUp.Refused IdRange; group = groupOf g }) (cond y (record { answer = SetUp.Refused SetUpBefore; group = groupOf g }) (groupTaken (groupOf g) p))) .number → groupTold (cond (not x) (record { answer = SetUp.Refused IdRange; group = groupOf g }) (cond y (record { answer = SetUp.Refused SetUpBefore; group = groupOf g }) (groupTaken (groupOf g) p))) .group ≡ g
   unfolding groupTold groupTaken setUpNumber
   refused-group false y p low = same-group g
   refused-group true true p low = same-group g
@@ -53,7 +53,7 @@ unfolding RefusedGroupStays groupPlaced
 refused-group-stays i g c M = refused-group g (inRange GroupId i) (groupOf g .used) (groupSetUp c M)
 
 module _ (s : StreamRecord) where
-  refused-stream : (x y : Bool) (p : StreamSetUp) → numberOf Unsound ≤ streamTold s (cond (not x) (record { answer = SetUp.Refused IdRange; stream = streamOf s }) (cond y (record { answer = SetUp.Refused SetUpBefore; stream = streamOf s }) (streamTaken (streamOf s) p))) .number → streamTold s (cond (not x) (record { answer = SetUp.Refused IdRange; stream = streamOf s }) (cond y (record { answer = SetUp.Refused SetUpBefore; stream = streamOf s }) (streamTaken (streamOf s) p))) .stream ≡ s
+  refused-stream : (x y : Bool) (p : StreamSetUp) → leastRefusal ≤ streamTold s (cond (not x) (record { answer = SetUp.Refused IdRange; stream = streamOf s }) (cond y (record { answer = SetUp.Refused SetUpBefore; stream = streamOf s }) (streamTaken (streamOf s) p))) .number → streamTold s (cond (not x) (record { answer = SetUp.Refused IdRange; stream = streamOf s }) (cond y (record { answer = SetUp.Refused SetUpBefore; stream = streamOf s }) (streamTaken (streamOf s) p))) .stream ≡ s
   unfolding streamTold streamTaken setUpNumber
   refused-stream false y p low = same-stream s
   refused-stream true true p low = same-stream s

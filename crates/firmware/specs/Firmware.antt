@@ -3,8 +3,8 @@
 use Prim.Native.Nat.{ℕ}
 use mathlib.Core.Bool.{true, cond}
 use mathlib.Core.List.{List, [], _∷_, map}
+use Rattle.quantity.specs.Kinds.{ticks, bits, perSecond}
 use Rattle.quantity.specs.declared.Rate.{Rate}
-use Rattle.records.specs.ExactTime.{ticks}
 use Rattle.records.specs.Numbers.{answerNumber}
 use Rattle.records.specs.declared.Group.{Group}
 use Rattle.records.specs.declared.Stream.{Stream}
@@ -37,8 +37,8 @@ groupRecord g = record { used = g .used; class = g .class; discards = g .discard
 unfoldable pub streamOf : StreamRecord → Stream
 streamOf s = record {
   group = s .group;
-  rate = record { 0 = s .rate };
-  regulator = cond (s .used) (Bucket (record { 0 = s .burst }) (record { ticks = s .empty; part = s .part })) Unset;
+  rate = perSecond (s .rate);
+  regulator = cond (s .used) (Bucket (bits (s .burst)) (record { ticks = s .empty; part = s .part })) Unset;
 }
 
 -- the record s where a stream of group i, rate r and some regulator is to stand; one that is not set up leaves s

@@ -6,8 +6,9 @@ use native.Mathlib.Omega.{arith}
 use native.Mathlib.Numerals.{add-one}
 use lib.ListN.{getD}
 use borrow.Author.Tests.{lt-ltb, le-ltb}
+use Rattle.quantity.specs.Kinds.{ticks}
 use Rattle.quantity.specs.declared.Ticks.{Ticks}
-use Rattle.places.specs.Queue.{places, classes, countOf, ticks}
+use Rattle.places.specs.Queue.{places, classes, countOf}
 use Rattle.places.proofs.Counts.{left, over}
 use Rattle.firsts.specs.declared.First.{First}
 use Rattle.firsts.specs.declared.First.the-variants.{At, NoEntry}

@@ -5,7 +5,8 @@ use mathlib.Core.Bool.{cond}
 use mathlib.Core.List.{List, [], _∷_}
 use lib.Dec.{ltb}
 use lib.ListN.{getD}
-use Rattle.places.specs.Queue.{places, classes, countOf, ticks}
+use Rattle.quantity.specs.Kinds.{ticks}
+use Rattle.places.specs.Queue.{places, classes, countOf}
 use Rattle.firsts.specs.declared.First.{First}
 use Rattle.firsts.specs.declared.First.the-variants.{At, NoEntry}
 use Rattle.firsts.specs.declared.Smallest.{Smallest}

@@ -6,11 +6,11 @@ use mathlib.Core.List.{[], _∷_, _++_}
 use Prim.Native.Nat.{ℕ, _+_, _*_, _≤_, max}
 use native.Mathlib.Omega.{arith}
 use lib.ListN.{length, getD, set}
+use Rattle.quantity.proofs.Refusals.{refusal-number}
 use Rattle.quantity.specs.Ranges.{mostOf}
 use Rattle.quantity.specs.Numbers.{numberOf}
 use Rattle.quantity.specs.declared.Item.the-variants.{Charge}
-use Rattle.quantity.specs.declared.Refusal.{Refusal}
-use Rattle.quantity.specs.declared.Refusal.the-variants.{Unsound, NoStream, LengthRange, AboveBurst, TooLate, BeforeLast, IdRange, SetUpBefore, NoGroup, RateRange, BurstRange, ResidenceRange, ClassRange, ClassFull, UnknownMark, CutShort, NoRoom, ListsUnfit, LineUnfit}
+use Rattle.quantity.specs.declared.Refusal.the-variants.{ClassFull}
 use Rattle.quantity.specs.declared.Ticks.{Ticks}
 use Rattle.records.specs.Numbers.{answerNumber}
 use Rattle.records.specs.declared.Group.{Group}
@@ -63,33 +63,11 @@ pub record Pass (w : Waiting) (g : Group) (k n : ℕ) (a : Answer) : Type 0 wher
   pub some : settled w g k n a .number ≡ 0 → ⊥
   pub stays : settled w g k n a .waiting ≡ w
 
--- a refusal's number is from 9 up
-pub from-nine : (why : Refusal) → 9 ≤ numberOf why
-from-nine Unsound = omega arith
-from-nine NoStream = omega arith
-from-nine LengthRange = omega arith
-from-nine AboveBurst = omega arith
-from-nine TooLate = omega arith
-from-nine BeforeLast = omega arith
-from-nine IdRange = omega arith
-from-nine SetUpBefore = omega arith
-from-nine NoGroup = omega arith
-from-nine RateRange = omega arith
-from-nine BurstRange = omega arith
-from-nine ResidenceRange = omega arith
-from-nine ClassRange = omega arith
-from-nine ClassFull = omega arith
-from-nine UnknownMark = omega arith
-from-nine CutShort = omega arith
-from-nine NoRoom = omega arith
-from-nine ListsUnfit = omega arith
-from-nine LineUnfit = omega arith
-
 module _ (w : Waiting) (g : Group) (k n : ℕ) (sh : Shaped w) (so : allSound (w .times) (w .bits) (w .fills) ≡ true) where
   settle-ways : (a : Answer) → ((T : Ticks) → a ≡ Released T → Enterable (handed g k n (T .0))) → Enter w g k n a ⊎ Pass w g k n a
   unfolding settled entered enteringOf enteringBy answerNumber handed
   settle-ways (Discarded T) may = inr (record { list = refl; number = inl refl; some = λ e. omega arith; stays = refl })
-  settle-ways (Refused why) may = inr (record { list = refl; number = inl refl; some = λ e. omega (arith, from-nine why); stays = refl })
+  settle-ways (Refused why) may = inr (record { list = refl; number = inl refl; some = λ e. omega (arith, refusal-number why); stays = refl })
   settle-ways (Released T) may = go (putGives w (h .class) (h .entry) .placed) refl where
     h : Handed
     h = handed g k n (T .0)

@@ -8,12 +8,13 @@ use lib.Dec.{ltb, leb, eqb}
 use lib.ListN.{length, getD, set, length-set}
 use lib.Seq.{getD-set-same, getD-set-other, set-getD}
 use borrow.Author.Tests.{leb-true, leb-false, ltb-true, lt-leb, le-leb, lt-ltb, le-ltb, eqb-true, eqb-false, ne-eqb, not-true, not-false}
+use Rattle.quantity.specs.Kinds.{ticks}
 use Rattle.quantity.specs.Ranges.{inRange, mostOf}
 use Rattle.quantity.specs.declared.Item.the-variants.{Class, Charge, EntryTime}
 use Rattle.quantity.specs.declared.Ticks.{Ticks}
 use Rattle.quantity.proofs.Booleans.{both}
 use Rattle.quantity.proofs.Ranges.{at-most}
-use Rattle.places.specs.Queue.{classes, places as roomOfClass, countOf, ticks, entryAt}
+use Rattle.places.specs.Queue.{classes, places as roomOfClass, countOf, entryAt}
 use Rattle.classes.specs.Soundness.{entrySound}
 use Rattle.places.specs.Places.{withLast, hasRoom, AfterPut, putGives, without, takeGives}
 use Rattle.firsts.specs.Firsts.{smaller, smallestBelow, smallestOf, firstOf}

@@ -9,6 +9,7 @@ use lib.Dec.{eqb}
 use lib.ListN.{length, getD, set}
 use lib.Seq.{getD-set-other}
 use borrow.Author.Tests.{eqb-true, eqb-false, eq-eqb, ne-eqb}
+use Rattle.quantity.specs.Numbers.{leastRefusal}
 use Rattle.quantity.specs.declared.Refusal.{Refusal}
 use Rattle.quantity.specs.declared.Refusal.the-variants.{Unsound, ListsUnfit, LineUnfit}
 use Rattle.quantity.specs.declared.Ticks.{Ticks}
@@ -74,7 +75,7 @@ plainly (arrives e t) r q = plainly t r q
 plainly (picks m e t) r q = plainly t r q
 
 -- of the stops, only a refusal has a number from 9 up other than 27
-low-number : (why : Stop) → ((r : Refusal) → why ≡ Refused r → ⊥) → 9 ≤ stopNumber why → (stopNumber why ≡ 27 → ⊥) → ⊥
+low-number : (why : Stop) → ((r : Refusal) → why ≡ Refused r → ⊥) → leastRefusal ≤ stopNumber why → (stopNumber why ≡ stopNumber TooLate → ⊥) → ⊥
 unfolding stopNumber
 low-number Done p l n = omega arith
 low-number BudgetSpent p l n = omega arith

@@ -5,7 +5,7 @@ use Prim.Native.Nat.{ℕ, suc, _+_, _≤_, _<_, min}
 use native.Mathlib.Numerals.{add-one}
 use lib.ListN.{getD}
 use borrow.Author.Tests.{lt-leb, le-leb, eq-eqb, ne-eqb}
-use Rattle.places.specs.Queue.{ticks}
+use Rattle.quantity.specs.Kinds.{ticks}
 use Rattle.firsts.specs.declared.Smallest.the-variants.{Time, NothingWaits}
 use Rattle.line.specs.Firsts.{never, soonBelow, waitsAt, smallestIn, classBelow}
 

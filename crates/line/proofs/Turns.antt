@@ -7,6 +7,7 @@ use native.Mathlib.Omega.{arith}
 use lib.Dec.{leb, eqb}
 use lib.ListN.{length, getD, set, length-set}
 use borrow.Author.Tests.{leb-true, eqb-true}
+use Rattle.quantity.specs.Kinds.{ticks}
 use Rattle.quantity.specs.Ranges.{inRange, mostOf, placeOf}
 use Rattle.quantity.specs.declared.Item.the-variants.{LineRate, LineFree, ListPlaces, GroupId, StreamId}
 use Rattle.quantity.specs.declared.Refusal.{Refusal}
@@ -14,7 +15,6 @@ use Rattle.quantity.specs.declared.Refusal.the-variants.{Unsound, ListsUnfit, L
 use Rattle.quantity.specs.declared.Ticks.{Ticks}
 use Rattle.quantity.proofs.Booleans.{both}
 use Rattle.quantity.proofs.Ranges.{at-most}
-use Rattle.records.specs.ExactTime.{ticks}
 use Rattle.records.specs.declared.Answer.the-variants.{Released}
 use Rattle.shaper.specs.declared.Judged.{Judged}
 use Rattle.places.specs.Queue.{classes}

@@ -6,9 +6,10 @@ use mathlib.Core.Bool.{true, cond}
 use mathlib.Core.List.{List}
 use lib.Dec.{leb, eqb}
 use lib.ListN.{length, getD}
+use Rattle.quantity.specs.Kinds.{ticks, bits}
 use Rattle.quantity.specs.Ranges.{mostOf}
 use Rattle.quantity.specs.declared.Item.the-variants.{Class, Charge}
-use Rattle.places.specs.Queue.{classes, ticks, Shaped}
+use Rattle.places.specs.Queue.{classes, Shaped}
 use Rattle.classes.specs.Soundness.{entrySound, allSound}
 use Rattle.firsts.specs.Firsts.{firstOf}
 use Rattle.classes.specs.Calls.{dueOf, takeDue}
@@ -69,7 +70,7 @@ pub record Enterable (h : Handed) : Type 0 where
   pub entry : entrySound (h .entry .time .0) (h .entry .bits .0) ≡ true
 
 abbrev pub noEntry : Entry
-noEntry = record { handle = 0; time = ticks 0; bits = record { 0 = 0 } }
+noEntry = record { handle = 0; time = ticks 0; bits = bits 0 }
 
 -- the entry that left
 abbrev pub entryOf : Picked → Entry

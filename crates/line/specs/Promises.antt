@@ -6,7 +6,7 @@ use mathlib.Core.Bool.{Bool, true}
 use mathlib.Core.Logic.{_⊎_}
 use mathlib.Core.List.{List, [], _∷_, _++_}
 use lib.ListN.{length, getD, take, drop}
-use Rattle.quantity.specs.Numbers.{numberOf}
+use Rattle.quantity.specs.Numbers.{numberOf, leastRefusal}
 use Rattle.quantity.specs.declared.Refusal.{Refusal}
 use Rattle.quantity.specs.declared.Refusal.the-variants.{ClassFull}
 use Rattle.places.specs.Queue.{queue, Shaped}
@@ -15,7 +15,7 @@ use Rattle.places.specs.declared.Entry.{Entry}
 use Rattle.bridge.specs.History.{Reply, replies, after}
 use Rattle.event.specs.Next.{stopNumber}
 use Rattle.event.specs.declared.Stop.{Stop}
-use Rattle.event.specs.declared.Stop.the-variants.{BudgetSpent, Refused}
+use Rattle.event.specs.declared.Stop.the-variants.{BudgetSpent, Refused, TooLate}
 use Rattle.line.specs.Run.{Input, State, Outcome, sendingTicks, stopped, begun, runGives, ranValues}
 use Rattle.line.specs.Events.{Takes, framesFrom, numbers, entrances, Departure, departures, handlesOf, momentsOf, written, enteredInto, leftFrom, count, enteredHandles, zerosFrom}
 
@@ -44,7 +44,7 @@ RunIsItsEvents =
 -- a number from 9 up leaves all as it was, except 27, which ends a run and gives its whole result
 abbrev pub RefusedChangesNothing : Type 0
 RefusedChangesNothing =
-    (i : Input) (budget : ℕ) (s : State) → 9 ≤ stopNumber (runGives i budget s .ran .stop) → (stopNumber (runGives i budget s .ran .stop) ≡ 27 → ⊥) →
+    (i : Input) (budget : ℕ) (s : State) → leastRefusal ≤ stopNumber (runGives i budget s .ran .stop) → (stopNumber (runGives i budget s .ran .stop) ≡ stopNumber TooLate → ⊥) →
     (runGives i budget s ≡ stopped (runGives i budget s .ran .stop) s) × (ranValues (runGives i budget s .ran) ≡ [])
 
 -- the count of events goes up by the events taken, which are the arrivals and the picks, and are not more than the budget

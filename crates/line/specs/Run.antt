@@ -5,10 +5,11 @@ use mathlib.Core.Bool.{Bool, cond, not, _&&_}
 use mathlib.Core.List.{List, [], _∷_}
 use lib.Dec.{leb, eqb}
 use lib.ListN.{length, getD, set}
+use Rattle.quantity.specs.Kinds.{ticks, bits}
 use Rattle.quantity.specs.Ranges.{inRange}
 use Rattle.quantity.specs.declared.Item.the-variants.{LineRate, LineFree, ListPlaces}
 use Rattle.quantity.specs.declared.Refusal.the-variants.{Unsound, ListsUnfit, LineUnfit}
-use Rattle.records.specs.ExactTime.{bitTime, ticks}
+use Rattle.records.specs.ExactTime.{bitTime}
 use Rattle.quantity.specs.Charge.{charged}
 use Rattle.records.specs.Numbers.{answerNumber}
 use Rattle.records.specs.declared.Group.{Group}
@@ -69,7 +70,7 @@ step i left s =
 
 -- what is handed to the queue for a frame at place k that is released at T: T, the class of its stream's group g, and its charged bits
 unfoldable pub handed : Group → ℕ → ℕ → ℕ → Handed
-handed g k n T = record { class = g .class; entry = record { handle = k; time = ticks T; bits = record { 0 = charged n } } }
+handed g k n T = record { class = g .class; entry = record { handle = k; time = ticks T; bits = bits (charged n) } }
 
 -- a frame's own number, and the queues after it
 pub record Settled : Type 0 where

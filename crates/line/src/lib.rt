@@ -15,6 +15,7 @@ use quantity::Item;
 use quantity::ORDINARY_OVERHEAD;
 use quantity::Rate;
 use quantity::Refusal;
+use quantity::TICKS_PER_SECOND;
 use quantity::Ticks;
 use records::Answer;
 use records::Group;
@@ -36,8 +37,6 @@ const LAST_CLASS: usize = quantity::MOST_CLASS as usize;
 
 // Later than the time of any entry: the first of a class in which nothing waits.
 const NEVER: u64 = 18_446_744_073_709_551_615;
-
-const TICKS_PER_SECOND: u64 = 1_000_000_000;
 
 // What is handed to the queue. Public for definitions of other crates.
 pub struct Handed {

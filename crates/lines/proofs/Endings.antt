@@ -3,39 +3,16 @@ use mathlib.Core.Path.{_≡_, sym, ap, _∙_}
 use mathlib.Core.Bool.{true, false}
 use mathlib.Core.List.{[], _∷_, _++_}
 use Prim.Native.Nat.{ℕ, _+_, _≤_, _<_}
-use native.Mathlib.Omega.{arith}
 use lib.Dec.{ltb, leb}
 use borrow.Author.Tests.{lt-ltb, le-ltb, le-leb, leb-true}
-use Rattle.quantity.specs.Numbers.{numberOf}
+use Rattle.quantity.specs.Numbers.{leastRefusal, numberOf}
 use Rattle.quantity.specs.declared.Refusal.{Refusal}
-use Rattle.quantity.specs.declared.Refusal.the-variants.{Unsound, NoStream, LengthRange, AboveBurst, TooLate, BeforeLast, IdRange, SetUpBefore, NoGroup, RateRange, BurstRange, ResidenceRange, ClassRange, ClassFull, UnknownMark, CutShort, NoRoom, ListsUnfit, LineUnfit}
+use Rattle.quantity.proofs.Refusals.{refusal-number}
 use Rattle.quantity.proofs.Booleans.{both, and-false, cond-true, cond-false}
-use Rattle.lines.specs.Lines.{dash, lineOf, leastRefusal, endLine, ending}
+use Rattle.lines.specs.Lines.{dash, lineOf, endLine, ending}
 use Rattle.lines.specs.Places.{lineRoom, endRoom, mostLines, mayEnd}
 
 -- ---- the text
-
--- a refusal's number is at least 9, and has at most three digits
-pub refusal-number : (why : Refusal) → (leastRefusal ≤ numberOf why) × (numberOf why < 256)
-refusal-number Unsound = (omega arith, omega arith)
-refusal-number NoStream = (omega arith, omega arith)
-refusal-number LengthRange = (omega arith, omega arith)
-refusal-number AboveBurst = (omega arith, omega arith)
-refusal-number TooLate = (omega arith, omega arith)
-refusal-number BeforeLast = (omega arith, omega arith)
-refusal-number IdRange = (omega arith, omega arith)
-refusal-number SetUpBefore = (omega arith, omega arith)
-refusal-number NoGroup = (omega arith, omega arith)
-refusal-number RateRange = (omega arith, omega arith)
-refusal-number BurstRange = (omega arith, omega arith)
-refusal-number ResidenceRange = (omega arith, omega arith)
-refusal-number ClassRange = (omega arith, omega arith)
-refusal-number ClassFull = (omega arith, omega arith)
-refusal-number UnknownMark = (omega arith, omega arith)
-refusal-number CutShort = (omega arith, omega arith)
-refusal-number NoRoom = (omega arith, omega arith)
-refusal-number ListsUnfit = (omega arith, omega arith)
-refusal-number LineUnfit = (omega arith, omega arith)
 
 pub plain-ending : (n e : ℕ) → e < leastRefusal → ending n e ≡ endLine n
 unfolding ending

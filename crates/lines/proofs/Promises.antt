@@ -11,9 +11,10 @@ use Rattle.tablefile.specs.declared.Reading.the-variants.{Found, NothingLeft, R
 use Rattle.lines.specs.Lines.{dash, lineOf, endLine, ending}
 use Rattle.lines.specs.Places.{lineRoom, endRoom, mayEnd, endPut}
 use Rattle.lines.specs.Promises.{EndWithin}
+use Rattle.quantity.proofs.Refusals.{refusal-number}
 use Rattle.lines.proofs.Texts.{line-short, end-line-short}
 use Rattle.lines.proofs.Placing.{where-within}
-use Rattle.lines.proofs.Endings.{refusal-number, plain-ending, refused-ending, may-end}
+use Rattle.lines.proofs.Endings.{plain-ending, refused-ending, may-end}
 
 ending-short : (n : ℕ) (x : Reading) → length (ending n (readingNumber x)) ≤ lineRoom + endRoom
 ending-short n (Found r next) = omega (arith, ap length (plain-ending n 0 (omega arith)), end-line-short n)

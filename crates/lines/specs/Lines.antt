@@ -4,6 +4,7 @@ use Prim.Native.Nat.{ℕ, _+_}
 use mathlib.Core.Bool.{cond}
 use mathlib.Core.List.{List, [], _∷_, _++_}
 use lib.Dec.{ltb}
+use Rattle.quantity.specs.Numbers.{leastRefusal}
 use Rattle.text.specs.Decimal.{decimal}
 use Rattle.lines.specs.declared.Shown.{Shown}
 use Rattle.lines.specs.declared.Shown.the-variants.{Time, Dash}
@@ -39,10 +40,6 @@ lineOf n letters number values =
 -- the last line: `end` and the count of lines before it
 unfoldable pub endLine : ℕ → List ℕ
 endLine n = 101 ∷ 110 ∷ 100 ∷ space ∷ (decimal n ++ (newline ∷ []))
-
--- numbers from here up are refusals
-abbrev pub leastRefusal : ℕ
-leastRefusal = 9
 
 -- a refusal that ends the reading, 24 or 25, has a line with two dashes for letters; nothing left to read has none
 unfoldable pub ending : ℕ → ℕ → List ℕ

@@ -6,12 +6,13 @@ use Prim.Native.Nat.{ℕ, _+_, _*_, _-_, _≤_, _<_}
 use native.Mathlib.Omega.{arith}
 use lib.ListN.{getD, set}
 use borrow.Author.Tests.{lt-ltb, le-ltb}
+use Rattle.quantity.specs.Kinds.{ticks}
 use Rattle.quantity.specs.declared.Item.the-variants.{Class}
 use Rattle.quantity.proofs.Ranges.{within, too-high}
 use Rattle.places.specs.declared.Waiting.{Waiting}
 use Rattle.places.specs.declared.Entry.{Entry}
 use Rattle.places.specs.declared.Picked.the-variants.{Leaves, Nothing}
-use Rattle.places.specs.Queue.{places, lists, countOf, ticks, entryAt}
+use Rattle.places.specs.Queue.{places, lists, countOf, entryAt}
 use Rattle.places.specs.Places.{withLast, hasRoom, putGives, closed, without, takeGives}
 use Rattle.places.proofs.Counts.{none-beyond, none-overfull, count-is}
 

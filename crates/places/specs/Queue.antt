@@ -6,9 +6,9 @@ use mathlib.Core.Bool.{cond, _&&_}
 use mathlib.Core.List.{List, [], _∷_}
 use lib.Dec.{leb}
 use lib.ListN.{length, getD, replicate}
+use Rattle.quantity.specs.Kinds.{ticks, bits}
 use Rattle.quantity.specs.Ranges.{inRange, mostOf}
 use Rattle.quantity.specs.declared.Item.the-variants.{Class}
-use Rattle.quantity.specs.declared.Ticks.{Ticks}
 use Rattle.places.specs.declared.Waiting.{Waiting}
 use Rattle.places.specs.declared.Entry.{Entry}
 
@@ -36,13 +36,9 @@ nothing = lists (replicate allPlaces 0) (replicate allPlaces 0) (replicate allPl
 unfoldable pub countOf : List ℕ → ℕ → ℕ
 countOf fs c = cond (inRange Class c && leb (getD fs c 0) places) (getD fs c 0) 0
 
--- a number of ticks as the quantity
-abbrev pub ticks : ℕ → Ticks
-ticks t = record { 0 = t }
-
 -- the entry that stands at a place
 unfoldable pub entryAt : Waiting → ℕ → Entry
-entryAt w i = record { handle = getD (w .handles) i 0; time = ticks (getD (w .times) i 0); bits = record { 0 = getD (w .bits) i 0 } }
+entryAt w i = record { handle = getD (w .handles) i 0; time = ticks (getD (w .times) i 0); bits = bits (getD (w .bits) i 0) }
 
 -- the n entries that stand from place i on
 unfoldable pub entriesFrom : Waiting → ℕ → ℕ → List Entry

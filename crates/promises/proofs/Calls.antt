@@ -6,10 +6,10 @@ use mathlib.Core.Logic.{_⊎_, inl, inr}
 use Prim.Native.Nat.{ℕ, _+_, _%_, _^_, _≤_, _<_}
 use lib.Dec.{ltb}
 use borrow.Author.Tests.{ltb-true, ltb-false}
+use Rattle.quantity.specs.Kinds.{ticks}
 use Rattle.quantity.specs.Ranges.{inRange}
 use Rattle.quantity.specs.declared.Item.the-variants.{StreamId}
 use Rattle.shaper.specs.Frame.{afterRelease, eligibilityTime, discarded, released, processFrame}
-use Rattle.records.specs.ExactTime.{ticks}
 use Rattle.setup.specs.SetUp.{freshGroup, freshStream}
 use Rattle.quantity.specs.Charge.{charged}
 use Rattle.records.specs.declared.Group.{Group}

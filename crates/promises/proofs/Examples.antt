@@ -6,8 +6,7 @@ use Prim.Native.Nat.{ℕ, _+_, _*_, _≤_}
 use native.Mathlib.Omega.{arith}
 use native.Mathlib.Decide.{ℕ-discrete}
 use Rattle.quantity.specs.Ranges.{inRange}
-use Rattle.quantity.specs.Numbers.{numberOf}
-use Rattle.quantity.specs.declared.Refusal.the-variants.{Unsound}
+use Rattle.quantity.specs.Numbers.{leastRefusal}
 use Rattle.quantity.specs.Charge.{chargedBits}
 use Rattle.records.specs.ExactTime.{exactly, momentOf, roundedUp, E-first}
 use Rattle.shaper.specs.Frame.{burstOf, S, F, E-after, earliest, afterRelease, eligibilityTime, discarded, released, settled, processFrame}
@@ -101,7 +100,7 @@ unfolding EachOf EligibleOnArrival
 three-not-on-arrival h = let k = rw (given .three) at h in omega (arith, k .1 .1 .0 refl)
 
 -- ---- a refused call changes nothing, and one that is not refused may change the tables
-pub refused-is-met : numberOf Unsound ≤ reply freshBridge (frame 0 64 0) .number
+pub refused-is-met : leastRefusal ≤ reply freshBridge (frame 0 64 0) .number
 refused-is-met = rw (given .refused) (omega arith)
 
 pub taken-changes : afterCall freshBridge (group 0 6 224_000) ≡ freshBridge → ⊥

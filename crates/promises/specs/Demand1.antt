@@ -4,7 +4,7 @@ use Prim.Native.Nat.{ℕ, _≤_}
 use mathlib.Core.Path.{_≡_}
 use mathlib.Core.Bool.{true}
 use mathlib.Core.List.{List, [], _∷_}
-use Rattle.quantity.specs.Numbers.{numberOf}
+use Rattle.quantity.specs.Numbers.{numberOf, leastRefusal}
 use Rattle.quantity.specs.declared.Refusal.the-variants.{Unsound}
 use Rattle.records.specs.Sound.{sound, soundGroup}
 use Rattle.records.specs.Numbers.{isSetUp}
@@ -18,7 +18,7 @@ OneFixedAnswer = (A : Type 0) (defined given other : A) → given ≡ defined �
 
 -- a number from 9 up comes with no value, and every record stays
 unfoldable pub RefusedChangesNothing : Type 0
-RefusedChangesNothing = (b : Bridge) (x : Call) → numberOf Unsound ≤ reply b x .number → (afterCall b x ≡ b) × (reply b x .values ≡ [])
+RefusedChangesNothing = (b : Bridge) (x : Call) → leastRefusal ≤ reply b x .number → (afterCall b x ≡ b) × (reply b x .values ≡ [])
 
 -- every record of the tables is sound: each group that is set up, and each stream that is, with its group
 pub record SoundRecords (b : Bridge) : Type 0 where

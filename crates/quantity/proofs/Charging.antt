@@ -6,7 +6,7 @@ use native.Mathlib.Omega.{arith}
 use Rattle.quantity.specs.Ranges.{inRange, leastOf, mostOf}
 use Rattle.quantity.specs.declared.Item.the-variants.{Octets, Charge}
 use Rattle.quantity.proofs.Ranges.{within, at-least, at-most}
-use Rattle.quantity.specs.Charge.{chargedBits, charged}
+use Rattle.quantity.specs.Charge.{ordinaryOverhead, chargedBits, charged}
 
 pub charge-grows : (overhead m n : ℕ) → m ≤ n → chargedBits overhead m ≤ chargedBits overhead n
 unfolding chargedBits
@@ -22,5 +22,7 @@ unfolding chargedBits
 charge-most = refl
 
 pub charge-in-range : (n : ℕ) → inRange Octets n ≡ true → inRange Charge (charged n) ≡ true
-unfolding chargedBits
-charge-in-range n h = within Charge (charged n) (omega (arith, at-least Octets n h)) (omega (arith, at-most Octets n h))
+charge-in-range n h =
+    within Charge (charged n)
+    (omega (arith, charge-least, charge-grows ordinaryOverhead (leastOf Octets) n (at-least Octets n h)))
+    (omega (arith, charge-most, charge-grows ordinaryOverhead n (mostOf Octets) (at-most Octets n h)))

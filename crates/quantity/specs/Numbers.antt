@@ -3,6 +3,10 @@ use Prim.Native.Nat.{ℕ}
 use Rattle.quantity.specs.declared.Refusal.{Refusal}
 use Rattle.quantity.specs.declared.Refusal.the-variants.{Unsound, NoStream, LengthRange, AboveBurst, TooLate, BeforeLast, IdRange, SetUpBefore, NoGroup, RateRange, BurstRange, ResidenceRange, ClassRange, ClassFull, UnknownMark, CutShort, NoRoom, ListsUnfit, LineUnfit}
 
+-- a number from 9 up is a refusal's, but for 27, which ends a run
+abbrev pub leastRefusal : ℕ
+leastRefusal = 9
+
 abbrev pub numberOf : Refusal → ℕ
 numberOf Unsound = 9
 numberOf NoStream = 10

@@ -14,6 +14,8 @@ pub struct Bits(pub u64);
 // Bits per second.
 pub struct Rate(pub u64);
 
+pub const TICKS_PER_SECOND: u64 = 1_000_000_000;
+
 // What document 01 gives a range.
 pub enum Item {
     StreamId,

@@ -3,6 +3,7 @@
 use Prim.Native.Nat.{ℕ}
 use mathlib.Core.Path.{_≡_, refl}
 use mathlib.Core.List.{List, [], _∷_, _++_}
+use Rattle.quantity.specs.Kinds.{ticks, perSecond}
 use Rattle.tablefile.specs.declared.Record.the-variants.{Group, Stream, Frame}
 use Rattle.tablefile.specs.BigEndian.{number}
 use Rattle.tablefile.specs.Layout.{kinds, total, fieldNumbers, size}
@@ -23,11 +24,11 @@ frame-line = 0x46 ∷ 0x52 ∷ 0x00 ∷ 0x00 ∷ 0x40 ∷ 0x00 ∷ 0x00 ∷ 0x00
 pub example : contents (group-line ++ (stream-line ++ (frame-line ++ (frame-line ++ frame-line))))
     ≡ record {
       records =
-          Group 0 6 (record { 0 = 224_000 })
-          ∷ Stream 0 0 (record { 0 = 9_000_000 }) 1_344
-          ∷ Frame 0 64 (record { 0 = 0 })
-          ∷ Frame 0 64 (record { 0 = 0 })
-          ∷ Frame 0 64 (record { 0 = 0 })
+          Group 0 6 (ticks 224_000)
+          ∷ Stream 0 0 (perSecond 9_000_000) 1_344
+          ∷ Frame 0 64 (ticks 0)
+          ∷ Frame 0 64 (ticks 0)
+          ∷ Frame 0 64 (ticks 0)
           ∷ [];
       ended = nothingLeft;
       place = 67;

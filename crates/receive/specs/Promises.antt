@@ -5,8 +5,7 @@ use mathlib.Core.Path.{_≡_}
 use mathlib.Core.Bool.{true}
 use mathlib.Core.List.{List}
 use lib.ListN.{length, getD, set}
-use Rattle.quantity.specs.Numbers.{numberOf}
-use Rattle.quantity.specs.declared.Refusal.the-variants.{Unsound}
+use Rattle.quantity.specs.Numbers.{leastRefusal}
 use Rattle.records.specs.Numbers.{isSetUp, answerNumber}
 use Rattle.records.specs.declared.Group.{Group}
 use Rattle.records.specs.declared.Stream.{Stream}
@@ -34,4 +33,4 @@ RunKeepsItsLength = (i : ℕ) (g : Group) (ss : List Stream) (k n A : ℕ) → l
 
 -- a number from 9 up leaves the lent records as they stood
 unfoldable pub RefusedStays : Type 0
-RefusedStays = (i : ℕ) (g : Group) (ss : List Stream) (k n A : ℕ) → numberOf Unsound ≤ answerNumber (received i g ss k n A .answer) → (received i g ss k n A .group ≡ g) × (received i g ss k n A .streams ≡ ss)
+RefusedStays = (i : ℕ) (g : Group) (ss : List Stream) (k n A : ℕ) → leastRefusal ≤ answerNumber (received i g ss k n A .answer) → (received i g ss k n A .group ≡ g) × (received i g ss k n A .streams ≡ ss)

@@ -1,6 +1,5 @@
 // The interrupt side: a frame judged where its records stand, in one lent group's record and a lent run of 64 stream
 // records. Every decision is `lent`'s and `shaper`'s; the call here only carries.
-use lent::Received;
 use lent::is_ready;
 use lent::judge_in;
 use lent::unready;
@@ -35,26 +34,5 @@ pub fn receive(
         return judged.answer;
     } else {
         return unready(streams.len());
-    }
-}
-
-// The same by value, for callers that are to be proved without a walk of their own.
-pub fn receive_value(
-    id: u8,
-    group: Group,
-    streams: [Stream; 64],
-    stream: u8,
-    octets: u16,
-    arrival: Ticks,
-) -> Received
-    ensures { λ r. ⌜ r ≡ received id group streams stream octets (arrival .0) ⌝ }
-{
-    let mut lent = group;
-    let mut run = streams;
-    let answer = receive(id, &mut lent, &mut run, stream, octets, arrival);
-    Received {
-        answer,
-        group: lent,
-        streams: run,
     }
 }

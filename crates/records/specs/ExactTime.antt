@@ -2,16 +2,12 @@
 -- r is a stream's rate. In r-ths of a tick every time of a frame is a whole number z of either sign, and the definitions compute with that number.
 use Prim.Native.Nat.{ℕ, suc, _+_, _*_, _-_, _/_, _%_}
 use lib.IntN.{ℤ, pos, negsuc, negℤ, _+ℤ_, _*ℤ_}
-use Rattle.quantity.specs.declared.Ticks.{Ticks}
+use Rattle.quantity.specs.Kinds.{ticksPerSecond}
 use Rattle.records.specs.declared.Moment.{Moment}
-
--- so many ticks, as the records hold them
-abbrev pub ticks : ℕ → Ticks
-ticks n = record { 0 = n }
 
 -- L bits last L·10⁹/r ticks, which is L·10⁹ r-ths of a tick
 abbrev pub bitTime : ℕ → ℕ
-bitTime L = L * 1_000_000_000
+bitTime L = L * ticksPerSecond
 
 -- the bucket empty time of a burst b is first −b·10⁹/r
 unfoldable pub E-first : ℕ → ℤ

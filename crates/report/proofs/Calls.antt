@@ -27,7 +27,7 @@ use Rattle.bridge.specs.declared.BridgeSetUp.{BridgeSetUp}
 use Rattle.bridge.specs.declared.Framed.{Framed}
 use Rattle.bridge.proofs.Tables.{group-call, stream-call, frame-call}
 use Rattle.lines.specs.Lines.{valuesOf}
-use Rattle.lines.proofs.Endings.{refusal-number}
+use Rattle.quantity.proofs.Refusals.{refusal-number}
 use Rattle.report.specs.Steps.{replyOf, setUpAnswer, shownOf, frameAnswer, streamOf, groupOf, groupCarried, streamCarried, frameCarried, carriedOut}
 use Rattle.report.specs.declared.Carried.{Carried}
 

@@ -31,7 +31,7 @@ use Rattle.bridge.specs.History.{reply, afterCall}
 use Rattle.bridge.specs.declared.Bridge.{Bridge}
 use Rattle.lines.specs.Lines.{dash, column, ending}
 use Rattle.lines.specs.Places.{lineRoom}
-use Rattle.lines.proofs.Endings.{refusal-number}
+use Rattle.quantity.proofs.Refusals.{refusal-number}
 use Rattle.report.specs.Records.{callOf, recordLine}
 use Rattle.report.specs.Listing.{recordLines, listingOf, listingFrom}
 use Rattle.report.specs.Parts.{Part, onto, mayGoOn, goingOn, stopsAt, partFor, partOf}

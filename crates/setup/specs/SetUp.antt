@@ -2,10 +2,11 @@
 -- c is a class, M a residence limit, r a rate, b a burst. That an id is out of range or already set up (15, 16) is for the calls by id to say.
 use Prim.Native.Nat.{ℕ}
 use mathlib.Core.Bool.{true, not, cond, _&&_}
+use Rattle.quantity.specs.Kinds.{ticks, bits, perSecond}
 use Rattle.quantity.specs.Ranges.{inRange}
 use Rattle.quantity.specs.declared.Item.the-variants.{GroupId, Class, StreamRate, Burst, Residence}
 use Rattle.quantity.specs.declared.Refusal.the-variants.{Unsound, NoGroup, RateRange, BurstRange, ResidenceRange, ClassRange}
-use Rattle.records.specs.ExactTime.{momentOf, E-first, ticks}
+use Rattle.records.specs.ExactTime.{momentOf, E-first}
 use Rattle.records.specs.Sound.{soundGroup}
 use Rattle.records.specs.declared.Group.{Group}
 use Rattle.records.specs.declared.Stream.{Stream}
@@ -21,7 +22,7 @@ freshGroup c M = record { used = true; class = c; residence = ticks M; time = ti
 
 -- a stream first: its bucket is full, E = −b·10⁹/r
 unfoldable pub freshStream : ℕ → ℕ → ℕ → Stream
-freshStream i r b = record { group = i; rate = record { 0 = r }; regulator = Bucket (record { 0 = b }) (momentOf r (E-first b)) }
+freshStream i r b = record { group = i; rate = perSecond r; regulator = Bucket (bits b) (momentOf r (E-first b)) }
 
 -- a group of class c and residence limit M
 unfoldable pub groupSetUp : ℕ → ℕ → GroupSetUp

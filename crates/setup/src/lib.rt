@@ -4,6 +4,7 @@ use quantity::Bits;
 use quantity::Item;
 use quantity::Rate;
 use quantity::Refusal;
+use quantity::TICKS_PER_SECOND;
 use quantity::Ticks;
 use quantity::in_range;
 use records::Group;
@@ -80,7 +81,7 @@ fn fresh_stream(id: u8, rate: Rate, burst: Bits) -> Stream
     requires { ⌜ (inRange Item.StreamRate (rate .0) ≡ true) × (inRange Item.Burst (burst .0) ≡ true) ⌝ }
     ensures { λ r. ⌜ r ≡ freshStream id (rate .0) (burst .0) ⌝ }
 {
-    let parts = burst.0 * 1_000_000_000;
+    let parts = burst.0 * TICKS_PER_SECOND;
     let r = rate.0;
     let empty = before_zero(parts / r, parts % r, rate);
     Stream {

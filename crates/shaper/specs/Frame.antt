@@ -1,13 +1,13 @@
 -- Document 01, 'One frame through a scheduler'.
 -- L is the frame's charged bits, A its arrival, r the stream's rate, b its burst, E its bucket empty time, M the group's residence limit, G its group time.
 -- E, S and F are whole numbers of r-ths of a tick; A, M, G and T are whole ticks.
-use Prim.Native.Nat.{ℕ, _+_, _*_, _%_, _^_, max}
-use mathlib.Core.Bool.{Bool, cond}
+use Prim.Native.Nat.{ℕ, _+_, _%_, _^_, max}
+use mathlib.Core.Bool.{cond}
 use lib.Dec.{ltb}
 use lib.IntN.{ℤ, pos, _+ℤ_, _-ℤ_}
 use lib.Signed.{ltZ}
-use Rattle.records.specs.ExactTime.{ticks, bitTime, tickTime, exactly, momentOf, roundedUp, orZero}
-use Rattle.records.specs.declared.Moment.{Moment}
+use Rattle.quantity.specs.Kinds.{ticks}
+use Rattle.records.specs.ExactTime.{bitTime, tickTime, exactly, momentOf, roundedUp, orZero}
 use Rattle.records.specs.declared.Group.{Group}
 use Rattle.records.specs.declared.Stream.{Stream}
 use Rattle.records.specs.declared.Regulator.{Regulator}

@@ -3,6 +3,7 @@
 use crate::Span;
 use quantity::Bits;
 use quantity::Rate;
+use quantity::TICKS_PER_SECOND;
 use quantity::Ticks;
 use records::Moment;
 ghost use mathlib.Core.Path.{_≡_};
@@ -25,7 +26,7 @@ pub(crate) fn lasting(bits: Bits, rate: Rate) -> Span
     requires { ⌜ (bits .0 ≤ 16_000_000) × (0 < rate .0) ⌝ }
     ensures { λ s. ⌜ Lasts (rate .0) (bits .0) s ⌝ }
 {
-    let parts = bits.0 * 1_000_000_000;
+    let parts = bits.0 * TICKS_PER_SECOND;
     let r = rate.0;
     Span {
         ticks: parts / r,

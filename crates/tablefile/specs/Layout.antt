@@ -3,6 +3,7 @@
 use Prim.Native.Nat.{ℕ, _+_, _^_, _<_}
 use mathlib.Core.List.{List, [], _∷_, _++_}
 use lib.ListN.{getD, take, drop}
+use Rattle.quantity.specs.Kinds.{ticks, perSecond}
 use Rattle.tablefile.specs.declared.Record.{Record}
 use Rattle.tablefile.specs.declared.Record.the-variants.{Group, GroupDefault, Stream, Frame}
 use Rattle.tablefile.specs.BigEndian.{byteValues, bigEndian, number}
@@ -49,10 +50,10 @@ numbersOf (Frame stream octets arrival) = stream ∷ octets ∷ arrival .0 ∷ [
 
 -- the record of a kind with these numbers in its fields; the other way round
 abbrev pub recordOf : Kind → List ℕ → Record
-recordOf GR n = Group (getD n 0 0) (getD n 1 0) (record { 0 = getD n 2 0 })
+recordOf GR n = Group (getD n 0 0) (getD n 1 0) (ticks (getD n 2 0))
 recordOf GD n = GroupDefault (getD n 0 0) (getD n 1 0)
-recordOf ST n = Stream (getD n 0 0) (getD n 1 0) (record { 0 = getD n 2 0 }) (getD n 3 0)
-recordOf FR n = Frame (getD n 0 0) (getD n 1 0) (record { 0 = getD n 2 0 })
+recordOf ST n = Stream (getD n 0 0) (getD n 1 0) (perSecond (getD n 2 0)) (getD n 3 0)
+recordOf FR n = Frame (getD n 0 0) (getD n 1 0) (ticks (getD n 2 0))
 
 -- ---- the same for every kind
 

@@ -1,6 +1,7 @@
 -- Document 01, 'The table file': what a GD record stands for.
 -- m is a residence in ticks.
 use Prim.Native.Nat.{ℕ}
+use Rattle.quantity.specs.Kinds.{ticks}
 use Rattle.tablefile.specs.declared.Record.{Record}
 use Rattle.tablefile.specs.declared.Record.the-variants.{Group, GroupDefault, Stream, Frame}
 
@@ -12,6 +13,6 @@ defaultResidence = 10_000_000
 -- in full already
 abbrev pub inFull : ℕ → Record → Record
 inFull m (Group group class residence) = Group group class residence
-inFull m (GroupDefault group class) = Group group class (record { 0 = m })
+inFull m (GroupDefault group class) = Group group class (ticks m)
 inFull m (Stream stream group rate burst) = Stream stream group rate burst
 inFull m (Frame stream octets arrival) = Frame stream octets arrival

@@ -5,7 +5,6 @@
 ghost use mathlib.Core.Path.{_≡_};
 ghost use Rattle.tablefile.specs.Layout.{mark, kindOf};
 ghost use Rattle.tablefile.specs.Answers.{readingNumber, writtenNumber};
-ghost use Rattle.tablefile.specs.Meaning.{defaultResidence, inFull};
 use quantity::Rate;
 use quantity::Refusal;
 use quantity::Ticks;
@@ -72,22 +71,6 @@ pub const FRAME_BYTES: usize = 13;
 
 // The residence that a GD record stands for, in ticks.
 pub const DEFAULT_RESIDENCE: u64 = 10_000_000;
-
-// The record in full: GD as the GR that it stands for, and any other as it is.
-pub fn in_full(given: Record) -> Record
-    ensures { λ r. ⌜ r ≡ inFull defaultResidence given ⌝ }
-{
-    match given {
-        Record::Group { .. } => given,
-        Record::GroupDefault { group, class } => Record::Group {
-            group,
-            class,
-            residence: Ticks(DEFAULT_RESIDENCE),
-        },
-        Record::Stream { .. } => given,
-        Record::Frame { .. } => given,
-    }
-}
 
 // The mark of a record.
 pub fn letters(given: Record) -> [u8; 2]

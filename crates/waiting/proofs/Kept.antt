@@ -7,6 +7,7 @@ use Prim.Native.Nat.{ℕ, suc, _+_, _*_, _-_, _≤_, _<_}
 use native.Mathlib.Omega.{arith}
 use lib.Dec.{ltb}
 use lib.ListN.{length, length-append, getD}
+use Rattle.quantity.specs.Kinds.{ticks}
 use Rattle.quantity.specs.Ranges.{inRange}
 use Rattle.quantity.specs.declared.Item.the-variants.{Class, Charge, EntryTime}
 use Rattle.quantity.specs.declared.Refusal.the-variants.{ClassFull}
@@ -19,7 +20,7 @@ use Rattle.classes.specs.declared.Entered.the-variants.{Done, Refused as NotEnt
 use Rattle.classes.specs.declared.AfterEnter.{AfterEnter}
 use Rattle.firsts.specs.declared.First.{First}
 use Rattle.firsts.specs.declared.First.the-variants.{At, NoEntry}
-use Rattle.places.specs.Queue.{places, countOf, ticks, entryAt, entriesFrom, queue, Shaped}
+use Rattle.places.specs.Queue.{places, countOf, entryAt, entriesFrom, queue, Shaped}
 use Rattle.waiting.specs.Rules.{none, one}
 use Rattle.classes.specs.Soundness.{entrySound}
 use Rattle.places.specs.Places.{withLast, hasRoom, AfterPut, putGives, without}

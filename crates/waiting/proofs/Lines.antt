@@ -7,9 +7,9 @@ use native.Mathlib.Omega.{arith}
 use lib.Dec.{ltb}
 use lib.ListN.{length, length-append}
 use borrow.Author.Tests.{ltb-true, ltb-false}
+use Rattle.quantity.specs.Kinds.{ticks}
 use Rattle.places.specs.declared.Entry.{Entry}
 use Rattle.firsts.specs.declared.First.the-variants.{At, NoEntry}
-use Rattle.places.specs.Queue.{ticks}
 use Rattle.waiting.specs.Rules.{Each, none, one, After, NotBefore}
 use Rattle.firsts.specs.Firsts.{firstFrom, firstIn}
 

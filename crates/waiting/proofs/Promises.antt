@@ -8,6 +8,7 @@ use native.Mathlib.Omega.{arith}
 use lib.Dec.{ltb, eqb}
 use lib.ListN.{length, getD}
 use borrow.Author.Tests.{ltb-true, ltb-false, eqb-true, eqb-false}
+use Rattle.quantity.specs.Numbers.{leastRefusal}
 use Rattle.quantity.specs.declared.Item.the-variants.{Class}
 use Rattle.quantity.specs.declared.Refusal.the-variants.{Unsound, ClassFull}
 use Rattle.quantity.proofs.Ranges.{at-most}
@@ -208,16 +209,16 @@ pick-is-fixed w v v′ m c c′ e e′ p p′ = (same, (parts .1 .0, λ d. go d 
 -- ---- refusals
 pub refused-changes-nothing : RefusedChangesNothing
 refused-changes-nothing w = (λ c e h. ⊎-elim (λ r. refused-left w c e r) (λ a. absurd (accepted c e h a)) (enter-ways w c e), λ m h. ⊎-elim (λ r. refused m r) (λ q. ⊎-elim (λ i. absurd (idle m h i)) (λ t. absurd (taking m h t)) q) (pick-ways w m)) where
-  accepted : (c : ℕ) (e : Entry) → 9 ≤ enteredNumber (enterGives w c e .answer) → Accepting w c e → ⊥
+  accepted : (c : ℕ) (e : Entry) → leastRefusal ≤ enteredNumber (enterGives w c e .answer) → Accepting w c e → ⊥
   accepted c e h a = let g : enterGives w c e .answer ≡ Done = ap answerOf (a .gives) in let z : enteredNumber (enterGives w c e .answer) ≡ 0 = ap enteredNumber g in omega arith
 
   refused : (m : ℕ) → NotPicking w m → (pickGives w m .waiting ≡ w) × (pickedValues (pickGives w m .answer) ≡ [])
   refused m r = (ap remains (r .gives), ap pickedValues (ap answered (r .gives)))
 
-  idle : (m : ℕ) → 9 ≤ pickedNumber (pickGives w m .answer) → Idle w m → ⊥
+  idle : (m : ℕ) → leastRefusal ≤ pickedNumber (pickGives w m .answer) → Idle w m → ⊥
   idle m h i = let z : pickedNumber (pickGives w m .answer) ≡ 2 = ap pickedNumber (ap answered (i .gives)) in omega arith
 
-  taking : (m : ℕ) → 9 ≤ pickedNumber (pickGives w m .answer) → Taking w m → ⊥
+  taking : (m : ℕ) → leastRefusal ≤ pickedNumber (pickGives w m .answer) → Taking w m → ⊥
   taking m h t = let z : pickedNumber (pickGives w m .answer) ≡ 0 = ap pickedNumber (ap answered (gives w m t)) in omega arith
 
 -- ---- what is reached from empty

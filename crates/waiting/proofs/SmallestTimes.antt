@@ -6,6 +6,7 @@ use Prim.Native.Nat.{ℕ, zero, suc, _<_, min}
 use native.Mathlib.Omega.{arith}
 use lib.Dec.{ltb, leb}
 use borrow.Author.Tests.{ltb-true, ltb-false, leb-true, leb-false}
+use Rattle.quantity.specs.Kinds.{ticks}
 use Rattle.quantity.specs.declared.Ticks.{Ticks}
 use Rattle.places.specs.declared.Waiting.{Waiting}
 use Rattle.places.specs.declared.Entry.{Entry}
@@ -13,7 +14,7 @@ use Rattle.firsts.specs.declared.First.{First}
 use Rattle.firsts.specs.declared.First.the-variants.{At, NoEntry}
 use Rattle.firsts.specs.declared.Smallest.{Smallest}
 use Rattle.firsts.specs.declared.Smallest.the-variants.{Time, NothingWaits}
-use Rattle.places.specs.Queue.{queue, ticks}
+use Rattle.places.specs.Queue.{queue}
 use Rattle.waiting.specs.Rules.{Each, none, NotBefore}
 use Rattle.firsts.specs.Firsts.{firstOf, smaller, smallestBelow}
 use Rattle.waiting.proofs.Lines.{none-before, each-more}

@@ -5,6 +5,7 @@ use mathlib.Core.Path.{_≡_}
 use mathlib.Core.Bool.{true}
 use mathlib.Core.List.{[]}
 use lib.ListN.{length}
+use Rattle.quantity.specs.Numbers.{leastRefusal}
 use Rattle.quantity.specs.declared.Refusal.the-variants.{ClassFull, Unsound}
 use Rattle.places.specs.declared.Waiting.{Waiting}
 use Rattle.places.specs.declared.Entry.{Entry}
@@ -63,8 +64,8 @@ NothingIsNothing = (w : Waiting) (m : ℕ) → pickGives w m .answer ≡ Nothing
 abbrev pub RefusedChangesNothing : Type 0
 RefusedChangesNothing =
     (w : Waiting) →
-    ((c : ℕ) (e : Entry) → 9 ≤ enteredNumber (enterGives w c e .answer) → enterGives w c e .waiting ≡ w)
-    × ((m : ℕ) → 9 ≤ pickedNumber (pickGives w m .answer) → (pickGives w m .waiting ≡ w) × (pickedValues (pickGives w m .answer) ≡ []))
+    ((c : ℕ) (e : Entry) → leastRefusal ≤ enteredNumber (enterGives w c e .answer) → enterGives w c e .waiting ≡ w)
+    × ((m : ℕ) → leastRefusal ≤ pickedNumber (pickGives w m .answer) → (pickGives w m .waiting ≡ w) × (pickedValues (pickGives w m .answer) ≡ []))
 
 -- the smallest waiting time is one, and where nothing waits every class is empty
 abbrev pub SmallestIsSmallest : Type 0

@@ -5,6 +5,7 @@ use mathlib.Core.Bool.{Bool, cond, _&&_}
 use mathlib.Core.List.{List}
 use lib.Dec.{ltb}
 use lib.ListN.{length, set}
+use Rattle.quantity.specs.Kinds.{ticks}
 use Rattle.reader.specs.Reader.{readAt}
 use Rattle.tablefile.specs.Meaning.{defaultResidence}
 use Rattle.tablefile.specs.declared.Record.{Record}
@@ -61,7 +62,7 @@ hasRoom count arrivals ids octets = ltb count arrivals && (ltb count ids && ltb 
 -- what a record asks for; a group without a residence has the default, and a frame wants room in the lists
 unfoldable pub taskOf : Bool → Record → ℕ → Task
 taskOf room (rec.Group i c M) next = Sets (Group i c M) next
-taskOf room (rec.GroupDefault i c) next = Sets (Group i c (record { 0 = defaultResidence })) next
+taskOf room (rec.GroupDefault i c) next = Sets (Group i c (ticks defaultResidence)) next
 taskOf room (rec.Stream i k r u) next = Sets (Stream i k r u) next
 taskOf room (rec.Frame i n A) next = cond room (Frame i n A next) (Ends ListsFull)
 
