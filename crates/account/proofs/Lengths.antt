@@ -6,6 +6,7 @@ use native.Mathlib.Omega.{arith}
 use borrow.Author.Tests.{lt-ltb}
 use lib.Dec.{ltb}
 use lib.ListN.{length, length-append}
+use Rattle.quantity.specs.Kinds.{ticks}
 use Rattle.text.specs.Decimal.{lastDigits, fewest, digitCount, decimal}
 use Rattle.text.specs.Numeral.{most}
 use Rattle.text.proofs.Stores.{decimal-length}
@@ -55,11 +56,11 @@ numberOf (Stop number next free events picks) = number
 pub no-longer : (line : Line) → numberOf line ≤ 255 → length (textOf line) ≤ lineRoom
 unfolding textOf joined
 no-longer (Answer place number) h = simp length-append (omega (arith, twenty place, three number h))
-no-longer (Pick handle moment) h = simp length-append (omega (arith, twenty handle, twenty moment))
+no-longer (Pick handle moment) h = simp length-append (omega (arith, twenty handle, twenty (moment .0)))
 no-longer (Refused number) h = simp length-append (omega (arith, three number h))
 no-longer (Stop number next free events picks) h =
-    simp length-append (omega (arith, three number h, twenty next, twenty free, twenty events, twenty picks))
+    simp length-append (omega (arith, three number h, twenty next, twenty (free .0), twenty events, twenty picks))
 
-pub longest : length (textOf (Stop 255 most most most most)) ≡ lineRoom
+pub longest : length (textOf (Stop 255 most (ticks most) most most)) ≡ lineRoom
 unfolding textOf joined decimal lastDigits digitCount fewest
 longest = refl

@@ -60,9 +60,9 @@ stop number next free events picks =
 -- the answer to a frame, a pick, a run that is refused, a run's stop
 abbrev pub partsOf : Line → List (List ℕ)
 partsOf (Answer place number) = pair place number
-partsOf (Pick handle moment) = pickWord ∷ pair handle moment
+partsOf (Pick handle moment) = pickWord ∷ pair handle (moment .0)
 partsOf (Refused number) = refusedWord ∷ decimal number ∷ lineEnd ∷ []
-partsOf (Stop number next free events picks) = stop number next free events picks
+partsOf (Stop number next free events picks) = stop number next (free .0) events picks
 
 -- ---- the lines
 

@@ -1,5 +1,6 @@
 // The account of a run: the lines that a replay prints, put into lent bytes. Decimal numbers are `text`'s; the run that the
 // lines tell of is `line`'s. Input and output live with the programs.
+use quantity::Ticks;
 ghost use mathlib.Core.Path.{_≡_};
 ghost use mathlib.Core.List.{[], _∷_};
 ghost use Rattle.text.specs.Decimal.{decimal};
@@ -20,7 +21,7 @@ pub enum Line {
     // `pick HANDLE MOMENT`: a frame is picked at a moment.
     Pick {
         handle: u32,
-        moment: u64,
+        moment: Ticks,
     },
     // `refused NUMBER`: the run itself is refused.
     Refused(u8),
@@ -28,7 +29,7 @@ pub enum Line {
     Stop {
         number: u8,
         next: u64,
-        free: u64,
+        free: Ticks,
         events: u64,
         picks: u64,
     },
@@ -105,7 +106,7 @@ pub fn put_line(out: &mut [u8], at: usize, line: Line) -> usize
         Line::Answer { place, number } => put_pair(out, at, place, number as u64),
         Line::Pick { handle, moment } => {
             let after = text::put_text(out, at, b"pick ");
-            put_pair(out, after, handle as u64, moment)
+            put_pair(out, after, handle as u64, moment.0)
         }
         Line::Refused(number) => put_last(out, at, b"refused ", number as u64),
         Line::Stop {
@@ -114,6 +115,6 @@ pub fn put_line(out: &mut [u8], at: usize, line: Line) -> usize
             free,
             events,
             picks,
-        } => put_stop(out, at, number as u64, next, free, events, picks),
+        } => put_stop(out, at, number as u64, next, free.0, events, picks),
     }
 }

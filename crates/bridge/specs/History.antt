@@ -85,7 +85,7 @@ history xs = outcomes freshBridge xs
 abbrev pub bridgeAfter : List Call → Bridge
 bridgeAfter xs = after freshBridge xs
 
--- ---- a stream's burst and rate, as its set-up gave them
+-- ---- a stream's burst and rate, as its record has them; set-up gave them, and no call changes them
 
 abbrev pub burstAt : Bridge → ℕ → ℕ
 burstAt b i = burstOf (streamAt b i .regulator)

@@ -20,7 +20,7 @@ noStream = record { group = 0; rate = perSecond 0; regulator = Unset }
 unfoldable pub freshBridge : Bridge
 freshBridge = record { groups = replicate 16 noGroup; streams = replicate 64 noStream }
 
--- the record of an id; an id out of range has none
+-- the record of an id; for an id out of range an empty one
 unfoldable pub groupAt : Bridge → ℕ → Group
 groupAt b i = getD (b .groups) i noGroup
 

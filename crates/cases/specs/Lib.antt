@@ -1,3 +1,9 @@
 pub mod Ranges
 pub mod Orders
 pub mod Judging
+pub mod Waiting
+pub mod Line
+pub mod TableFile
+pub mod InterruptSide
+pub mod Listing
+pub mod Yard

@@ -32,7 +32,7 @@ arrivesBy l k m = ltb k (length l) && leb (getD l k 0) m
 unfoldable pub atCandidate : List ℕ → ℕ → ℕ → Event
 atCandidate l k m = cond (arrivesBy l k m) arrival (pick m)
 
--- nothing waits: the next arrival, if one remains; otherwise the candidate moment is the later of line-free and the smallest waiting time
+-- where nothing waits, the next arrival, if one remains; where something waits, the candidate moment is the later of line-free and the smallest waiting time
 unfoldable pub nextEvent : List ℕ → ℕ → ℕ → Smallest → Event
 nextEvent l k free NothingWaits = cond (ltb k (length l)) arrival none
 nextEvent l k free (Time t) = atCandidate l k (max free (t .0))

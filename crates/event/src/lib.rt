@@ -79,14 +79,14 @@ fn pick_step(moment: u64, left: u64, picks: usize, handles: usize, moments: usiz
 pub fn next_step(
     arrivals: &[u64],
     next: usize,
-    free: u64,
+    free: Ticks,
     smallest: Smallest,
     left: u64,
     picks: usize,
     handles: usize,
     moments: usize,
 ) -> Step
-    ensures { λ r. ⌜ r ≡ stepFor left picks handles moments (nextEvent (now (arrivals .entry)) next free smallest) ⌝ }
+    ensures { λ r. ⌜ r ≡ stepFor left picks handles moments (nextEvent (now (arrivals .entry)) next (free .0) smallest) ⌝ }
 {
     match smallest {
         Smallest::NothingWaits => {
@@ -96,7 +96,7 @@ pub fn next_step(
             Step::Ends(Stop::Done)
         }
         Smallest::Time(time) => {
-            let moment = later(free, time.0);
+            let moment = later(free.0, time.0);
             if arrives(arrivals, next, moment) {
                 return arrival_step(left);
             }

@@ -1,6 +1,6 @@
-// Runs the figures of document 01 that are no theorems, each number of 'Numbers returned' by a public call, and the
-// examples of source document 000, figures 1 and 3, in our units. Each line says what was tried and the numbers that
-// came; the file `stdout` beside it has them as the documents do.
+// Runs the figures of document 01 that are no theorems, each number of 'Numbers returned' once, and the examples of source
+// document 000, figures 1 and 3, in our units. Each line says what was tried and the numbers that came; the file `stdout`
+// beside it has them as the documents do. (The ends of the ranges and the orders of the refusals are theorems in `cases`.)
 use bridge::Bridge;
 use calls::set_up_number;
 use classes::Entered;
@@ -15,7 +15,9 @@ use quantity::refusal_number;
 use records::Answer;
 use records::answer_number;
 use tablefile::Record;
+ghost use mathlib.Core.Path.{_≡_};
 ghost use Prim.Native.Nat.{_≤_};
+ghost use Rattle.waiting.specs.Answers.{enteredNumber, pickedNumber};
 
 const RESIDENCE: u64 = 224_000;
 
@@ -52,19 +54,31 @@ fn framed_time(answer: Answer) -> u64 {
     }
 }
 
-fn entered_number(answer: Entered) -> u64 {
+fn entered_number(answer: Entered) -> u8
+    ensures { λ r. ⌜ r ≡ enteredNumber answer ⌝ }
+{
     match answer {
         Entered::Done => 0,
-        Entered::Refused(why) => refusal_number(why) as u64,
+        Entered::Refused(why) => refusal_number(why),
     }
 }
 
-// The handle of the entry that leaves; the number where none does.
-fn picked_number(answer: Picked) -> u64 {
+fn picked_number(answer: Picked) -> u8
+    ensures { λ r. ⌜ r ≡ pickedNumber answer ⌝ }
+{
     match answer {
-        Picked::Leaves { class: _, entry } => entry.handle as u64,
+        Picked::Leaves { .. } => 0,
         Picked::Nothing => 2,
-        Picked::Refused(why) => refusal_number(why) as u64,
+        Picked::Refused(why) => refusal_number(why),
+    }
+}
+
+// The handle of the entry that leaves.
+fn picked_handle(answer: Picked) -> u32 {
+    match answer {
+        Picked::Leaves { class: _, entry } => entry.handle,
+        Picked::Nothing => 0,
+        Picked::Refused(_) => 0,
     }
 }
 
@@ -141,7 +155,7 @@ fn filled(n: u32) -> Waiting {
 // One more entry.
 fn try_entry_after(what: &[u8], n: u32) {
     let answer = waiting::enter(filled(n), 3, entry(n, 5)).answer;
-    say(what, entered_number(answer));
+    say(what, entered_number(answer) as u64);
 }
 
 // Handles 7 and 8 with equal times.
@@ -165,7 +179,12 @@ fn overfull() -> Waiting {
 
 fn try_pick(what: &[u8], places: Waiting, moment: u64) {
     let answer = waiting::pick(places, Ticks(moment)).answer;
-    say(what, picked_number(answer));
+    say(what, picked_number(answer) as u64);
+}
+
+fn try_handle(what: &[u8], places: Waiting) {
+    let answer = waiting::pick(places, Ticks(5)).answer;
+    say(what, picked_handle(answer) as u64);
 }
 
 // ---- the table file
@@ -292,12 +311,8 @@ fn set_ups() {
 fn queues() {
     try_entry_after(b"32nd entry of a class: ", 31);
     try_entry_after(b"33rd entry of a class: ", 32);
-    try_pick(
-        b"handles 7, 8 with equal times, first: ",
-        seven_and_eight(),
-        5,
-    );
-    try_pick(b"handles 7, 8 with equal times, second: ", only_eight(), 5);
+    try_handle(b"handles 7, 8 with equal times, first: ", seven_and_eight());
+    try_handle(b"handles 7, 8 with equal times, second: ", only_eight());
     try_pick(b"nothing eligible: ", seven_and_eight(), 4);
     try_pick(b"a class with 33 entries: ", overfull(), 5);
 }

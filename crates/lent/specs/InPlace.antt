@@ -34,7 +34,7 @@ judgedIn i s g n A =
 abbrev pub stays : Group → List Stream → Refusal → Received
 stays g ss why = record { answer = Refused why; group = g; streams = ss }
 
--- judged: the group's record is updated where it stands, and of the run only the frame's own record changes
+-- the group's record after the frame stands where it stood, and of the run only the frame's own record changes; a refused frame leaves both
 abbrev pub stored : List Stream → ℕ → Judged → Received
 stored ss k j = record { answer = j .answer; group = j .group; streams = set ss k (j .stream) }
 

@@ -399,7 +399,7 @@ fn run_events(
         let step = event::next_step(
             arrivals,
             next,
-            free_at,
+            Ticks(free_at),
             soonest(&firsts),
             budget - events,
             picks,

@@ -1,4 +1,4 @@
--- Document 01, 'The table file', for the listing program: how its input buffer stands.
+-- How the listing program's input buffer stands. No sentence of document 01 stands here.
 -- p is where the listing stands, size the bytes of the input buffer.
 use Prim.Native.Nat.{ℕ, _≤_}
 use Rattle.listing.specs.declared.Progress.{Progress}

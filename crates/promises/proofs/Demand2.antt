@@ -31,8 +31,8 @@ process-frame-throughout xs = each-from freshBridge xs
 
 pub round-trips : RoundTrips
 round-trips = record {
-  record-read-is-written = reads-back;
-  record-written-is-read = writes-back;
-  file-read-is-written = file-reads-back;
-  file-written-is-read = file-writes-back;
+  record-written-is-read = reads-back;
+  record-read-is-written = writes-back;
+  file-written-is-read = file-reads-back;
+  file-read-is-written = file-writes-back;
 }

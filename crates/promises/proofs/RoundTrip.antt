@@ -2,23 +2,26 @@
 use mathlib.Core.Path.{_≡_, refl, ap, _∙_}
 use mathlib.Core.List.{List, []}
 use mathlib.Core.Bool.{Bool, true, false}
-use Prim.Native.Nat.{ℕ}
+use Prim.Native.Nat.{ℕ, _≤_}
 use native.Mathlib.Nat.{zero-add}
 use native.Mathlib.Omega.{arith}
 use borrow.Author.Tests.{le-ltb}
 use lib.Dec.{ltb}
 use lib.ListN.{length, drop}
-use Rattle.quantity.specs.declared.Refusal.{Refusal}
+use mathlib.Core.Option.{none}
+use Rattle.tablefile.specs.declared.Reading.{Reading}
+use Rattle.tablefile.specs.Answers.{writtenNumber, writtenValues, readingNumber, readingValues, nothingLeft}
+use Rattle.quantity.specs.Numbers.{leastRefusal}
 use Rattle.quantity.specs.declared.Refusal.the-variants.{NoRoom}
 use Rattle.tablefile.specs.declared.Record.{Record}
 use Rattle.tablefile.specs.Layout.{Fits, bytesOf}
-use Rattle.tablefile.specs.declared.Reading.the-variants.{Found}
+use Rattle.tablefile.specs.declared.Reading.the-variants.{Found, NothingLeft, Refused as NotRead}
 use Rattle.reader.specs.Reader.{readAt}
 use Rattle.reader.proofs.OneRecord.{found-length}
 use Rattle.reader.proofs.RoundTrip.{reads-back, writes-back}
 use Rattle.tablefile.specs.declared.Written.the-variants.{Bytes, Refused}
 use Rattle.writer.specs.Writer.{writeOf, writeTo}
-use Rattle.promises.specs.RoundTrip.{WrittenIsRead, ReadIsWritten, RefusedStays}
+use Rattle.promises.specs.RoundTrip.{WrittenIsRead, ReadIsWritten, RefusedStays, NothingWithoutRecord}
 
 by-room : (r : Record) → Fits r → (part : List ℕ) (n : ℕ) (t : Bool) → ltb (length part) (length (bytesOf r)) ≡ t
     → (writeTo r part) .answer ≡ Bytes n → readAt ((writeTo r part) .part) 0 ≡ Found r n
@@ -35,18 +38,25 @@ by-room r h part n false t e =
 pub written-is-read : WrittenIsRead
 written-is-read r h part n e = by-room r h part n (ltb (length part) (length (bytesOf r))) refl e
 
-stays : (bytes part : List ℕ) (why : Refusal) (t : Bool) → ltb (length part) (length bytes) ≡ t
-    → (writeOf bytes part) .answer ≡ Refused why → (writeOf bytes part) .part ≡ part
+stays : (bytes part : List ℕ) (t : Bool) → ltb (length part) (length bytes) ≡ t
+    → leastRefusal ≤ writtenNumber (writeOf bytes part .answer) → (writeOf bytes part .part ≡ part) × (writtenValues (writeOf bytes part .answer) ≡ none)
 unfolding writeOf
-stays bytes part why true t e = rw t
-stays bytes part why false t e =
-    let counted : Bytes (length bytes) ≡ Refused why = rw t at e in
-    let z : _≡_ {A = ℕ} 0 1 = cc in
+stays bytes part true t h = rw t (refl, refl)
+stays bytes part false t h =
+    let done : leastRefusal ≤ 0 = rw t at h in
     absurd (omega arith)
 
 pub refused-stays : RefusedStays
 unfolding writeTo
-refused-stays r part why e = stays (bytesOf r) part why (ltb (length part) (length (bytesOf r))) refl e
+refused-stays r part h = stays (bytesOf r) part (ltb (length part) (length (bytesOf r))) refl h
+
+no-value : (x : Reading) → nothingLeft ≤ readingNumber x → readingValues x ≡ none
+no-value (Found r next) h = absurd (omega arith)
+no-value NothingLeft h = refl
+no-value (NotRead why) h = refl
+
+pub nothing-without-record : NothingWithoutRecord
+nothing-without-record bytes place h = no-value (readAt bytes place) h
 
 pub read-is-written : ReadIsWritten
 unfolding writeTo writeOf

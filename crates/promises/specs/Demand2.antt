@@ -33,7 +33,7 @@ ProcessFrameThroughout = (xs : List Call) → EachByProcessFrame freshBridge xs
 
 -- records read from the table file are those written to it, and writing what was read gives the same bytes: for one record wherever it stands, and for a whole file
 pub record RoundTrips : Type 0 where
-  pub record-read-is-written : ReadsBack
-  pub record-written-is-read : WritesBack
-  pub file-read-is-written : FileReadsBack
-  pub file-written-is-read : FileWritesBack
+  pub record-written-is-read : ReadsBack
+  pub record-read-is-written : WritesBack
+  pub file-written-is-read : FileReadsBack
+  pub file-read-is-written : FileWritesBack

@@ -326,7 +326,7 @@ fn print_picks(out: &mut [u8], at: usize, picked: &[u32], moments: &[u64], picks
     while k < many {
         let pick = Line::Pick {
             handle: picked[k],
-            moment: moments[k],
+            moment: Ticks(moments[k]),
         };
         end = print_line(out, end, pick);
         k += 1;
@@ -341,10 +341,11 @@ fn last_line(ran: Ran) -> Line {
     if let Stop::Refused(_) = stop {
         return Line::Refused(number);
     }
+    let free = ran.free;
     Line::Stop {
         number,
         next: ran.next as u64,
-        free: ran.free.0,
+        free,
         events: ran.events,
         picks: ran.picks as u64,
     }

@@ -10,10 +10,11 @@ use native.Mathlib.Omega.{arith}
 use lib.Dec.{ltb}
 use lib.ListN.{length, take, drop, length-append, take-append-drop}
 use lib.Seq.{drop-append-add, length-take-le}
+use Rattle.quantity.specs.declared.Ticks.{Ticks}
 use Rattle.quantity.specs.declared.Refusal.{Refusal}
 use Rattle.quantity.specs.declared.Refusal.the-variants.{CutShort}
 use Rattle.tablefile.specs.BigEndian.{AreBytes}
-use Rattle.tablefile.specs.Layout.{Kind, kinds, widths, total, size}
+use Rattle.tablefile.specs.Layout.{Kind, kinds, widths, total, size, GR, GD, ST, FR}
 use Rattle.reader.specs.Reader.{markedAmong, readFields, readMarked, readLeft, readAt}
 use Rattle.tablefile.specs.Answers.{nothingLeft, readingNumber}
 use Rattle.reader.specs.File.{onwards, contentsFrom}
@@ -29,13 +30,13 @@ use Rattle.records.specs.declared.Answer.the-variants as answer
 use Rattle.bridge.specs.Calls.{frameCalled}
 use Rattle.bridge.specs.History.{reply, afterCall}
 use Rattle.bridge.specs.declared.Bridge.{Bridge}
-use Rattle.lines.specs.Lines.{dash, column, ending}
+use Rattle.lines.specs.Lines.{ending}
 use Rattle.lines.specs.Places.{lineRoom}
 use Rattle.quantity.proofs.Refusals.{refusal-number}
 use Rattle.report.specs.Records.{callOf, recordLine}
 use Rattle.report.specs.Listing.{recordLines, listingOf, listingFrom}
 use Rattle.report.specs.Parts.{Part, onto, mayGoOn, goingOn, stopsAt, partFor, partOf}
-use Rattle.report.specs.Promises.{DefaultAsInFull, AsFarAsItMay, TimeOfJudgedFrames, ListingInParts, ListingToItsEnd, PartWithin}
+use Rattle.report.specs.Promises.{DefaultAsInFull, AsFarAsItMay, TimeOfJudgedFrames, ListingInParts, ListingToItsEnd, PartWithin, Shows, time, set-up, refused}
 use Rattle.report.proofs.Stepping.{may-means}
 use Rattle.report.proofs.Underway.{found-further, line-within}
 
@@ -277,19 +278,25 @@ as-far-as-it-may bytes room b n = far bytes (suc (length bytes)) room b n 0 (ome
 
 -- ---- T
 
-judged-shown : (a : Answer) → (column (answerValues a) ≡ dash ∷ []) ⊎ (answerNumber a ≤ 1)
-unfolding answerValues answerNumber column
-judged-shown (answer.Released T) = inr (omega arith)
-judged-shown (answer.Discarded T) = inr (omega arith)
-judged-shown (answer.Refused why) = inl refl
+-- 1 for FR
+abbrev frames : Kind → ℕ
+frames GR = 0
+frames GD = 0
+frames ST = 0
+frames FR = 1
 
-of-frame : {A B : Type 0} → A ⊎ B → {k : Kind} → A ⊎ ((k ≡ k) × B)
-of-frame (inl a) = inl a
-of-frame (inr b) = inr (refl, b)
+no-frame : (k : Kind) → frames k ≡ 0 → k ≡ FR → ⊥
+no-frame k h e = omega (arith, ap frames e)
+
+judged-shown : (i n : ℕ) (A : Ticks) (a : Answer) → Shows (made.Frame i n A) (record { number = answerNumber a; values = answerValues a })
+unfolding answerValues answerNumber
+judged-shown i n A (answer.Released T) = time (T .0) refl (omega arith) refl
+judged-shown i n A (answer.Discarded T) = time (T .0) refl (omega arith) refl
+judged-shown i n A (answer.Refused why) = refused (refusal-number why .0) refl
 
 pub time-of-judged-frames : TimeOfJudgedFrames
-unfolding callOf reply column
-time-of-judged-frames b (made.Group i c M) = inl refl
-time-of-judged-frames b (made.GroupDefault i c) = inl refl
-time-of-judged-frames b (made.Stream i k r u) = inl refl
-time-of-judged-frames b (made.Frame i n A) = of-frame (judged-shown (frameCalled b i n (A .0) .answer))
+unfolding callOf reply
+time-of-judged-frames b (made.Group i c M) = set-up (no-frame GR refl) refl
+time-of-judged-frames b (made.GroupDefault i c) = set-up (no-frame GD refl) refl
+time-of-judged-frames b (made.Stream i k r u) = set-up (no-frame ST refl) refl
+time-of-judged-frames b (made.Frame i n A) = judged-shown i n A (frameCalled b i n (A .0) .answer)

@@ -6,14 +6,15 @@ use mathlib.Core.Logic.{_⊎_}
 use mathlib.Core.Bool.{false}
 use mathlib.Core.List.{List, [], _∷_, _++_}
 use lib.ListN.{length, drop}
+use Rattle.quantity.specs.Numbers.{leastRefusal}
 use Rattle.tablefile.specs.BigEndian.{AreBytes}
 use Rattle.tablefile.specs.Layout.{FR, kindOf}
 use Rattle.tablefile.specs.Answers.{nothingLeft, readingNumber}
 use Rattle.tablefile.specs.Meaning.{defaultResidence, inFull}
 use Rattle.tablefile.specs.declared.Record.{Record}
-use Rattle.bridge.specs.History.{reply}
+use Rattle.bridge.specs.History.{reply, Reply}
 use Rattle.bridge.specs.declared.Bridge.{Bridge}
-use Rattle.lines.specs.Lines.{dash, column, ending}
+use Rattle.lines.specs.Lines.{ending}
 use Rattle.report.specs.Records.{callOf}
 use Rattle.report.specs.Listing.{listingFrom}
 use Rattle.report.specs.Parts.{mayGoOn, partOf}
@@ -43,10 +44,14 @@ AsFarAsItMay =
     → (nothingLeft ≤ readingNumber (partOf bytes room b n .reading))
     ⊎ (mayGoOn (partOf bytes room b n .count) (room - length (partOf bytes room b n .text)) ≡ false)
 
--- T is shown of frames with 0 or 1 alone
+-- what the last column shows of a record that is answered so: T of a frame with 0 or 1; nothing of a set-up, nor with a number from 9 up
+pub data Shows (r : Record) (a : Reply) : Type 0 where
+  time : (T : ℕ) → kindOf r ≡ FR → a .number ≤ 1 → a .values ≡ T ∷ [] → Shows r a
+  set-up : (kindOf r ≡ FR → ⊥) → a .values ≡ [] → Shows r a
+  refused : leastRefusal ≤ a .number → a .values ≡ [] → Shows r a
+
 abbrev pub TimeOfJudgedFrames : Type 0
-TimeOfJudgedFrames =
-    (b : Bridge) (r : Record) → (column (reply b (callOf r) .values) ≡ dash ∷ []) ⊎ ((kindOf r ≡ FR) × (reply b (callOf r) .number ≤ 1))
+TimeOfJudgedFrames = (b : Bridge) (r : Record) → Shows r (reply b (callOf r))
 
 -- a part stops within its bytes, and its lines are within the room
 abbrev pub PartWithin : Type 0

@@ -36,7 +36,7 @@ unfoldable pub burstOf : Regulator → ℕ
 burstOf Unset = 0
 burstOf (Bucket b e) = b .0
 
--- the smallest whole tick at which it lets the frame go: not below S
+-- the smallest whole tick, from 0 on, at which it lets the frame go: of a bucket, the smallest not below S
 unfoldable pub earliest : ℕ → Regulator → ℕ → ℕ
 earliest r Unset L = 0
 earliest r (Bucket b e) L = orZero (roundedUp r (S (exactly r e) L))

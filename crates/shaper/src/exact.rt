@@ -2,6 +2,7 @@
 // by `first_tick`, once for each frame.
 use crate::Span;
 use quantity::Bits;
+use quantity::Item;
 use quantity::Rate;
 use quantity::TICKS_PER_SECOND;
 use quantity::Ticks;
@@ -9,6 +10,7 @@ use records::Moment;
 ghost use mathlib.Core.Path.{_≡_};
 ghost use Prim.Native.Nat.{ℕ, _+_, _*_, _<_, _≤_, _^_};
 ghost use lib.IntN.{pos, _+ℤ_};
+ghost use Rattle.quantity.specs.Ranges.{mostOf};
 ghost use Rattle.records.specs.ExactTime.{orZero, exactly, roundedUp};
 ghost use Rattle.records.specs.Steps.{shortfall};
 ghost use Rattle.shaper.specs.Steps.{spanTime, Lasts, Later, Fills};
@@ -23,7 +25,7 @@ fn raised(a: i64, n: u64) -> i64
 
 // How long the bits take at the rate.
 pub(crate) fn lasting(bits: Bits, rate: Rate) -> Span
-    requires { ⌜ (bits .0 ≤ 16_000_000) × (0 < rate .0) ⌝ }
+    requires { ⌜ (bits .0 ≤ mostOf Item.Burst) × (0 < rate .0) ⌝ }
     ensures { λ s. ⌜ Lasts (rate .0) (bits .0) s ⌝ }
 {
     let parts = bits.0 * TICKS_PER_SECOND;

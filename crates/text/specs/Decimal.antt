@@ -1,4 +1,4 @@
--- Document 01, 'The table file': the listing's numbers are decimal.
+-- Numbers in decimal, as the example of document 01's section 'The table file' has them.
 -- n is a number of 64 bits, k a count of digits, j the power of ten that a digit stands for.
 use Prim.Native.Nat.{ℕ, zero, suc, _+_, _/_, _%_, _^_}
 use mathlib.Core.Bool.{cond}

@@ -1,4 +1,4 @@
--- Document 01, 'A run against a line': the numbers that a program is given are decimal.
+-- The numbers that a program is given are decimal. No sentence of document 01 stands here.
 -- b is a byte, l a list of bytes, v the number that the digits before them say.
 use Prim.Native.Nat.{ℕ, _+_, _-_, _*_, min}
 use mathlib.Core.Bool.{Bool, cond, true, _&&_}

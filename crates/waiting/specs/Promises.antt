@@ -67,7 +67,7 @@ RefusedChangesNothing =
     ((c : ℕ) (e : Entry) → leastRefusal ≤ enteredNumber (enterGives w c e .answer) → enterGives w c e .waiting ≡ w)
     × ((m : ℕ) → leastRefusal ≤ pickedNumber (pickGives w m .answer) → (pickGives w m .waiting ≡ w) × (pickedValues (pickGives w m .answer) ≡ []))
 
--- the smallest waiting time is one, and where nothing waits every class is empty
+-- some entry has the smallest waiting time, and none a smaller one; where nothing waits every class is empty
 abbrev pub SmallestIsSmallest : Type 0
 SmallestIsSmallest =
     (w : Waiting) →

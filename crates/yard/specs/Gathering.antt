@@ -1,4 +1,4 @@
--- Document 01, 'The table file' and 'A run against a line': the records of a part of a table file, taken one after the other into a bridge and the three lists of arrivals.
+-- What a replay gathers: the records of a part of a table file, taken one after the other into a bridge and the three lists of arrivals. Document 01 asks for the run and for the listing; no sentence of it stands here.
 -- s is how a gathering stands, b a bridge; of a record, i is its id, c a class, M a residence limit, k a stream's group, r a rate, u a burst, n a frame's octets, A its arrival, and next the place after it.
 use Prim.Native.Nat.{ℕ, zero, suc, _+_}
 use mathlib.Core.Bool.{Bool, cond, _&&_}
