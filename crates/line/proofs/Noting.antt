@@ -96,11 +96,6 @@ module _ (w : Waiting) (firsts places : List ℕ) (K : Keeps w firsts places) wh
   Early : Smallest → Type 0
   Early s = (t : Ticks) → s ≡ Time t → t .0 ≤ mostOf EntryTime
 
-  soon-early : (s : Smallest) → Early s → soonOf s ≤ never
-  unfolding soonOf Early
-  soon-early NothingWaits h = omega arith
-  soon-early (Time t) h = omega (arith, h t refl)
-
   smaller-is : (s : Smallest) (f : First) → Early s → ((k : ℕ) (t : Ticks) → f ≡ At k t → t .0 ≤ mostOf EntryTime)
       → (min (soonOf s) (timeOf f) ≡ soonOf (smaller s f)) × Early (smaller s f)
   unfolding soonOf smaller Early

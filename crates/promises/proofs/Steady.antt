@@ -134,8 +134,3 @@ pub steady-after : (b : Bridge) → Sized b → (xs : List Call) → Steady b (a
 unfolding after
 steady-after b z [] = steady-same b b refl
 steady-after b z (x ∷ xs) = steady-then b (afterCall b x) _ (steady-call b z x) (steady-after (afterCall b x) (sized-call b z x) xs)
-
-pub sized-after : (b : Bridge) → Sized b → (xs : List Call) → Sized (after b xs)
-unfolding after
-sized-after b z [] = z
-sized-after b z (x ∷ xs) = sized-after (afterCall b x) (sized-call b z x) xs

@@ -32,6 +32,3 @@ refuted {t} e h = sym e ∙ not-true t h
 
 pub confirmed : {t x : Bool} → t ≡ x → not t ≡ false → x ≡ true
 confirmed {t} e h = sym e ∙ not-false t h
-
-pub not-both : (a b : Bool) → a && b ≡ false → (a ≡ true) → b ≡ false
-not-both a b e h = rw h at e

@@ -121,9 +121,3 @@ unfolding numberAt
 number-parts l p a b h =
     let width : length (take b (drop (p + a) l)) ≡ b = length-take-le b (drop (p + a) l) (rw length-drop (omega arith)) in
     rw (take-add, drop-drop, number-append, width)
-
-pub numberAt-below : (l : List ℕ) (p w : ℕ) → AreBytes l → p + w ≤ length l → numberAt l p w < byteValues ^ w
-unfolding numberAt
-numberAt-below l p w bytes h =
-    let width : length (take w (drop p l)) ≡ w = length-take-le w (drop p l) (rw length-drop (omega arith)) in
-    rw width at (number-below (take w (drop p l)) (bytes-take w (drop p l) (bytes-drop p l bytes)))

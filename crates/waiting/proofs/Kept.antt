@@ -68,9 +68,6 @@ first-same w v d e = first-in v d ∙ ap (λ (q : List Entry). firstIn (timesOf 
 
 -- ---- what a first says of the arrays
 module _ (w : Waiting) (c : ℕ) where
-  pub first-none : firstOf (w .times) (w .fills) c ≡ NoEntry → countOf (w .fills) c ≡ 0
-  first-none f = sym (queue-length w c) ∙ ap length (empty-class w c f)
-
   module _ (k : ℕ) (t : Ticks) (f : firstOf (w .times) (w .fills) c ≡ At k t) where
     pub lead : Leads (queue w c) k (t .0)
     lead = leads-class w c k t f
