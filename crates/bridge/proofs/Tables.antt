@@ -17,7 +17,6 @@ use Rattle.records.specs.declared.Group.{Group}
 use Rattle.records.specs.declared.Stream.{Stream}
 use Rattle.shaper.specs.declared.Judged.{Judged}
 use Rattle.records.specs.declared.Answer.{Answer}
-use Rattle.setup.specs.declared.StreamSetUp.the-variants as stream
 use Rattle.shaper.proofs.Judging.{not-set-up, unsound}
 use Rattle.setup.proofs.Fresh.{group-out}
 use Rattle.calls.proofs.Returns.{group-id-out, stream-id-out, frame-id-out, frame-id-in}

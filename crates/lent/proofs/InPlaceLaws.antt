@@ -28,7 +28,6 @@ use Rattle.lent.specs.Steps.{ready, unreadiness}
 use lib.Seq.{set-getD}
 use Rattle.quantity.specs.Numbers.{numberOf}
 use Rattle.records.specs.declared.Answer.the-variants.{Refused}
-use Rattle.setup.specs.declared.GroupSetUp.the-variants as group
 use Rattle.lent.specs.declared.Received.{Received}
 
 -- ---- whether the run has its length and the stream a place in it

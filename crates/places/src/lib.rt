@@ -8,7 +8,7 @@ ghost use mathlib.Core.Path.{_≡_};
 ghost use Prim.Native.Nat.{_<_, _≤_};
 ghost use lib.ListN.{getD};
 ghost use Rattle.places.specs.Queue.{allPlaces, lists};
-ghost use Rattle.places.specs.Places.{AfterPut, putGives, closed, takeGives};
+ghost use Rattle.places.specs.Places.{putGives, closed, takeGives};
 
 // Classes are 0 up to this one.
 pub const LAST_CLASS: u8 = quantity::MOST_CLASS as u8;

@@ -6,8 +6,6 @@ use mathlib.Core.Logic.{_⊎_, inl, inr}
 use Prim.Native.Nat.{ℕ, _+_, _≤_}
 use native.Mathlib.Omega.{arith}
 use lib.Dec.{ltb}
-use Rattle.quantity.specs.Numbers.{numberOf}
-use Rattle.quantity.specs.declared.Refusal.the-variants.{Unsound}
 use Rattle.shaper.specs.Frame.{eligibilityTime, discarded, released, settled, processFrame}
 use Rattle.quantity.specs.Charge.{charged}
 use Rattle.records.specs.Numbers.{answerNumber, answerValues}

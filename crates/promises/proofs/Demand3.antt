@@ -5,12 +5,13 @@ use mathlib.Core.List.{List, [], _∷_, _++_}
 use Prim.Native.Nat.{ℕ, _+_, _*_, _≤_}
 use native.Mathlib.Decide.{ℕ-discrete}
 use native.Mathlib.Omega.{arith}
+use Rattle.quantity.specs.Kinds.{ticksPerSecond}
 use Rattle.records.specs.Numbers.{isSetUp}
-use Rattle.bridge.specs.Tables.{freshBridge, groupAt, streamAt}
-use Rattle.bridge.specs.History.{Call, group, stream, frame, afterCall, after, bridgeAfter, history, Frame, Outcome, released, discarded, frameOf, outcome, outcomes, Sent, eligible, arriving, bitsIn, WithinBurstAndRate, burstAt, rateAt}
+use Rattle.bridge.specs.Tables.{freshBridge, streamAt}
+use Rattle.bridge.specs.History.{Call, group, stream, frame, afterCall, after, bridgeAfter, history, Outcome, released, discarded, frameOf, outcome, outcomes, Sent, eligible, arriving, bitsIn, WithinBurstAndRate, burstAt, rateAt}
 use Rattle.bridge.specs.declared.Bridge.{Bridge}
 use Rattle.promises.specs.Demand3.{SpanLimit, Conforms, EligibleOnArrival, EachOf, ConformingArrivals}
-use Rattle.promises.proofs.Sums.{Seen, counted, passed, seen, bits-other}
+use Rattle.promises.proofs.Sums.{bits-other}
 use Rattle.promises.proofs.Spans.{trace-span-limit}
 use Rattle.promises.proofs.Sooner.{All, Prompt, Within, trace-conforming}
 use Rattle.promises.proofs.Places.{Sized, sized-fresh}
@@ -108,7 +109,7 @@ within-trace xs g w j lo d = of-group (isSetUp (streamAt e j .regulator)) refl
     e = bridgeAfter xs
 
     Bound : Type 0
-    Bound = bitsIn j lo (lo + d) (arriving (mine g (history xs))) * 1_000_000_000 ≤ burstAt e j * 1_000_000_000 + rateAt e j * d
+    Bound = bitsIn j lo (lo + d) (arriving (mine g (history xs))) * ticksPerSecond ≤ burstAt e j * ticksPerSecond + rateAt e j * d
 
     nothing : (isSetUp (streamAt e j .regulator) ≡ true → streamAt e j .group ≡ g → ⊥) → Bound
     nothing h = rw (arriving-none e g j lo (lo + d) h (history xs) (homed freshBridge sized-fresh xs)) (omega arith)

@@ -5,6 +5,7 @@ use mathlib.Core.List.{[], _∷_}
 use Prim.Native.Nat.{ℕ, _+_, _*_, _≤_}
 use native.Mathlib.Omega.{arith}
 use native.Mathlib.Decide.{ℕ-discrete}
+use Rattle.quantity.specs.Kinds.{ticksPerSecond}
 use Rattle.quantity.specs.Ranges.{inRange}
 use Rattle.quantity.specs.Numbers.{leastRefusal}
 use Rattle.quantity.specs.Charge.{chargedBits}
@@ -79,7 +80,7 @@ two-conforms i u h lo d = go (ℕ-discrete i 0)
     e : Sent
     e = record { stream = 0; bits = 672; tick = 0 }
 
-    go : Dec (i ≡ 0) → bitsIn i lo (lo + d) (arriving (history two)) * 1_000_000_000 ≤ burstAt (bridgeAfter two) i * 1_000_000_000 + rateAt (bridgeAfter two) i * d
+    go : Dec (i ≡ 0) → bitsIn i lo (lo + d) (arriving (history two)) * ticksPerSecond ≤ burstAt (bridgeAfter two) i * ticksPerSecond + rateAt (bridgeAfter two) i * d
     go (yes p) = rw (p, given .two, given .burst-two) (omega (arith, both-fit 0 lo (lo + d) e e refl refl))
     go (no p) = rw (given .two) (omega (arith, bits-other i lo (lo + d) e (e ∷ []) (λ q. p (sym q)), bits-other i lo (lo + d) e [] (λ q. p (sym q)), nothing i lo (lo + d)))
 

@@ -1,8 +1,8 @@
 -- Nothing sooner: any other list of times for a trace's frames that never falls, is not before the arrivals and keeps every stream within its burst and rate,
 -- has no time before the trace's. So frames that arrive within burst and rate are eligible as they arrive. Assumes nothing.
-use mathlib.Core.Path.{_≡_, refl, sym, ap}
+use mathlib.Core.Path.{_≡_, refl, ap}
 use mathlib.Core.List.{List, [], _∷_}
-use Prim.Native.Nat.{ℕ, _+_, _-_, _*_, _≤_, _<_, max, zero-le}
+use Prim.Native.Nat.{ℕ, _+_, _-_, _*_, _≤_, zero-le}
 use native.Mathlib.Nat.{mul-le-mul-right, mul-sub, le-refl, le-trans}
 use native.Mathlib.Decide.{ℕ-discrete}
 use native.Mathlib.Omega.{arith}

@@ -6,7 +6,7 @@ use Prim.Native.Nat.{ℕ, _+_, _≤_}
 use native.Mathlib.Nat.{le-refl}
 use native.Mathlib.Omega.{arith}
 use lib.Dec.{leb, eqb}
-use borrow.Author.Tests.{leb-true, eqb-true, eqb-false, eq-eqb, ne-eqb, le-leb}
+use borrow.Author.Tests.{leb-true, eqb-true, eq-eqb, ne-eqb, le-leb}
 use Rattle.bridge.specs.History.{Sent, bitsIn}
 
 -- one more entry: it counts, or it does not

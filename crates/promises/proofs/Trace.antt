@@ -1,15 +1,16 @@
 -- One group's judged frames in ℕ, as a relation: what is true of each frame and its time in the state that those before it left. Every theorem about many
 -- frames speaks of such traces; whatever judges frames only has to show that its outcomes are one. A stream's `full` is its X. Assumes nothing.
 use mathlib.Core.Path.{_≡_, refl}
-use mathlib.Core.Bool.{Bool, cond}
+use mathlib.Core.Bool.{cond}
 use mathlib.Core.List.{List, [], _∷_}
 use Prim.Native.Nat.{ℕ, _+_, _*_, _≤_, _<_, max}
 use lib.Dec.{eqb}
 use borrow.Author.Tests.{eq-eqb, ne-eqb}
+use Rattle.quantity.specs.Kinds.{ticksPerSecond}
 use Rattle.bridge.specs.History.{Frame, Outcome, released, discarded}
 
 abbrev pub K : ℕ
-K = 1_000_000_000
+K = ticksPerSecond
 
 -- what a stream is held to
 pub record Rule : Type 0 where

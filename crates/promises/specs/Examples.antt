@@ -1,9 +1,8 @@
 -- Histories that meet the premises of the promises, and histories that do not, where the conclusion fails.
 -- A yard of one group and one stream with document 01's figures, and one of two groups with a stream each.
 use Prim.Native.Nat.{ℕ}
-use mathlib.Core.Path.{_≡_, refl}
 use mathlib.Core.List.{List, [], _∷_}
-use Rattle.bridge.specs.History.{Call, group, stream, frame, Outcome, released, discarded}
+use Rattle.bridge.specs.History.{Call, group, stream, frame, Outcome, released}
 
 -- group 0 of class 6 with a residence limit of 224,000, stream 0 in it with rate 9,000,000 and burst 1,344
 abbrev pub yard : List Call → List Call

@@ -17,8 +17,6 @@ use Rattle.shaper.specs.Numbers.{judged, refused}
 use Rattle.records.specs.declared.Answer.the-variants.{Refused}
 use Rattle.records.specs.declared.Stream.{Stream}
 use Rattle.shaper.specs.declared.Judged.{Judged}
-use Rattle.setup.specs.declared.GroupSetUp.the-variants as group
-use Rattle.setup.specs.declared.StreamSetUp.the-variants as stream
 use Rattle.shaper.proofs.Judging.{not-set-up}
 use Rattle.bridge.specs.Tables.{noGroup, noStream, groupAt, streamAt, withGroup, withStream}
 use Rattle.calls.specs.Calls.{judgedAt}

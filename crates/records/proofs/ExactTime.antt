@@ -2,7 +2,7 @@
 -- the carry of a sum and the borrow of a difference come to. Assumes nothing.
 use mathlib.Core.Path.{_≡_, refl, sym, ap, _∙_}
 use mathlib.Core.Bool.{Bool, true, false}
-use Prim.Native.Nat.{ℕ, zero, suc, _+_, _*_, _-_, _/_, _%_, _≤_, _<_, _^_}
+use Prim.Native.Nat.{ℕ, suc, _+_, _*_, _-_, _/_, _%_, _≤_, _<_}
 use native.Mathlib.Nat.{add-mul, suc-mul, zero-mul, le-of-mul-le-mul-right, lt-of-mul-lt-mul-right, le-div-iff-mul-le, div-lt-iff-lt-mul, div-mul-le-self, div-add-mod', mod-lt}
 use native.Mathlib.Omega.{arith}
 use lib.Arith.{digits-div, digits-mod}
@@ -13,7 +13,7 @@ use borrow.Author.Tests.{ltb-true, ltb-false, le-ltb}
 use Rattle.records.specs.ExactTime.{exactly, momentOf, roundedUp, orZero}
 use Rattle.records.specs.Steps.{shortfall}
 use Rattle.records.specs.declared.Moment.{Moment}
-use Rattle.records.proofs.Integers.{sum, sum-most, times-above, times-below, same, opposite-above, opposite-below, is-le, of-le}
+use Rattle.records.proofs.Integers.{sum, times-above, times-below, same, opposite-above, opposite-below, is-le, of-le}
 
 -- ---- a moment's number of r-ths, in its two parts
 pub exactly-parts : (r : ℕ) (m : Moment) → orZero (exactly r m) + shortfall (m .ticks) * r ≡ orZero (m .ticks) * r + m .part + shortfall (exactly r m)

@@ -1,7 +1,7 @@
 -- Whole numbers of either sign for `omega`, which reads ℕ alone. A number z is orZero z − shortfall z.
 -- Each operation on ℤ has a law on these two parts, and an equation or an order on ℤ is one of ℕ. Assumes nothing.
 use mathlib.Core.Path.{_≡_, refl, sym, ap, _∙_}
-use mathlib.Core.Bool.{Bool, true, false, not, cond}
+use mathlib.Core.Bool.{Bool, true, false, cond}
 use Prim.Native.Nat.{ℕ, zero, suc, _+_, _*_, _-_, _≤_, _<_}
 use native.Mathlib.Nat.{zero-mul, add-zero}
 use native.Mathlib.Omega.{arith}

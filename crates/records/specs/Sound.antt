@@ -1,7 +1,7 @@
 -- Document 01, 'Numbers returned': what is sound.
 -- The letters are those of 'One frame through a scheduler'.
-use Prim.Native.Nat.{ℕ, _+_, _*_}
-use mathlib.Core.Bool.{Bool, true, false, _&&_}
+use Prim.Native.Nat.{ℕ, _+_}
+use mathlib.Core.Bool.{Bool, false, _&&_}
 use lib.Dec.{ltb, leb}
 use lib.Signed.{leZ}
 use Rattle.quantity.specs.Ranges.{inRange}

@@ -1,7 +1,7 @@
 -- Laws of decimal digits: counting them goes on one power of ten at a time, and each is the rest's last. Assumes nothing.
 use mathlib.Core.Path.{_≡_, refl, sym, ap, _∙_}
-use mathlib.Core.Bool.{Bool, true, false, cond}
-use mathlib.Core.List.{List, [], _∷_}
+use mathlib.Core.Bool.{true, false, cond}
+use mathlib.Core.List.{_∷_}
 use Prim.Native.Nat.{ℕ, zero, suc, _+_, _-_, _*_, _/_, _%_, _^_, _≤_, _<_}
 use native.Mathlib.Nat.{pow-suc, pow-le-pow-right, div-div-eq-div-mul}
 use native.Mathlib.Numerals.{add-one}
@@ -9,7 +9,7 @@ use native.Mathlib.Omega.{arith}
 use lib.Dec.{ltb}
 use lib.ListN.{length}
 use borrow.Author.Tests.{lt-ltb, le-ltb}
-use Rattle.text.specs.Decimal.{digit, lastDigits, fewest, digitCount, decimal}
+use Rattle.text.specs.Decimal.{digit, lastDigits, fewest, digitCount}
 
 -- ---- counting
 step : (k n : ℕ) → k ≤ 19 → fewest (20 - k) k n ≡ cond (ltb n (10 ^ k)) k (fewest (20 - (k + 1)) (k + 1) n)

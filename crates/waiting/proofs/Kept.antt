@@ -30,7 +30,7 @@ use Rattle.places.proofs.Counts.{count-is, count-all}
 use Rattle.waiting.proofs.Lines.{timesOf, Leads, each-join, each-split, each-head, same-front}
 use Rattle.waiting.proofs.Standing.{queue-length, last-entered, others-stay, ahead-length, stood, stands, others-remain, shaped-entered, shaped-left}
 use Rattle.waiting.proofs.SoundClasses.{Fine, AllSound, each-class, class-means, stays-sound}
-use Rattle.waiting.proofs.Choosing.{first-in, leads-class, empty-class}
+use Rattle.waiting.proofs.Choosing.{first-in, leads-class}
 
 -- ---- one entry more
 -- the first of a class that had the first f and n entries, with one more of time t behind them

@@ -1,15 +1,15 @@
 -- What a gathering promises, proved: each theorem has the name of its statement in specs/Promises. Assumes nothing.
-use mathlib.Core.Path.{_≡_, refl, sym, ap, _∙_}
+use mathlib.Core.Path.{_≡_, sym, ap, _∙_}
 use mathlib.Core.List.{List, _++_, append-assoc}
 use Prim.Native.Nat.{ℕ, _+_, _≤_}
 use native.Mathlib.Nat.{add-zero}
 use native.Mathlib.Omega.{arith}
 use lib.ListN.{length, take, drop, take-append-drop}
 use lib.Seq.{length-take-le}
-use Rattle.yard.specs.Gathering.{State, Outcome, gatherFrom, begun}
+use Rattle.yard.specs.Gathering.{Outcome, gatherFrom, begun}
 use Rattle.yard.specs.Promises.{OneRecordAtATime, FromAnyPlace, PartsAreOne, EndsForGood, moved, next, after}
 use Rattle.yard.proofs.Turns.{unfolds}
-use Rattle.yard.proofs.Parts.{gather-moved, resumed, Continues, continues}
+use Rattle.yard.proofs.Parts.{gather-moved, resumed, continues}
 
 pub one-record-at-a-time : OneRecordAtATime
 one-record-at-a-time = unfolds

@@ -1,8 +1,7 @@
 -- `listing::move_to_front` meets its contract. The loop's invariant: i bytes were moved, and those from there on stand as they stood. Assumes nothing.
-use borrow.Author.Needs.{needs}
-use mathlib.Core.Path.{_≡_, refl, _∙_}
+use mathlib.Core.Path.{_≡_, refl}
 use mathlib.Core.List.{List}
-use Prim.Native.Nat.{ℕ, _+_, _-_, _≤_, _<_}
+use Prim.Native.Nat.{ℕ, _-_, _≤_}
 use native.Mathlib.Omega.{arith}
 use Rattle.listing.proofs.Moving.{Moved, none-moved, one-moved}
 use Rattle.listing.proofs.move_to_front.Statement.{statement}

@@ -4,8 +4,6 @@ use Rattle.places.proofs.take_out.Statement.{statement}
 use Rattle.places.proofs.take_out.Tie as tie
 use native.Mathlib.Omega.{arith}
 use Rattle.places.proofs.Calls.{take-nowhere, take-overfull, take-none, take-done}
-use Rattle.places.proofs.close_up.Reads as close-up-reads
-use Rattle.places.proofs.close_up_handles.Reads as close-up-handles-reads
 
 returns : tie.Need-returns
 returns c = take-nowhere _ _ _ (omega arith)

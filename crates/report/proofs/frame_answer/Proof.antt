@@ -1,6 +1,6 @@
 -- `report::frame_answer` meets its contract. Assumes nothing.
 use borrow.Author.Needs.{needs}
-use mathlib.Core.Path.{_≡_, refl, sym, ap, _∙_}
+use mathlib.Core.Path.{sym, ap}
 use Rattle.report.specs.Steps.{shownOf}
 use Rattle.report.proofs.Stepping.{shows}
 use Rattle.report.proofs.frame_answer.Statement.{statement}

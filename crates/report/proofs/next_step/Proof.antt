@@ -1,6 +1,6 @@
 -- `report::next_step` meets its contract. Assumes nothing.
 use borrow.Author.Needs.{needs}
-use mathlib.Core.Path.{_≡_, refl, sym, ap, _∙_}
+use mathlib.Core.Path.{sym, ap, _∙_}
 use native.Mathlib.Omega.{arith}
 use Rattle.report.specs.Steps.{nextStep}
 use Rattle.tablefile.specs.declared.Reading.{Reading}

@@ -1,7 +1,6 @@
 -- `text::digit_count` meets its contract. The loop's invariant: the bound is the power of ten that k digits hold, and what is left to count from k on is the whole. Assumes nothing.
-use borrow.Author.Needs.{needs}
 use mathlib.Core.Path.{_≡_, refl, sym, _∙_}
-use Prim.Native.Nat.{ℕ, _≤_, _<_, _+_, _-_, _*_, _^_}
+use Prim.Native.Nat.{ℕ, _≤_, _-_, _^_}
 use native.Mathlib.Omega.{arith}
 use Rattle.text.specs.Decimal.{fewest, digitCount}
 use Rattle.text.proofs.Digits.{found, goes-on, begins, all-twenty, next-power, small-power}

@@ -1,5 +1,4 @@
 -- `text::is_digit` meets its contract. Assumes nothing.
-use borrow.Author.Needs.{needs}
 use mathlib.Core.Path.{sym}
 use native.Mathlib.Omega.{arith}
 use Rattle.text.proofs.Numerals.{below-digits, from-digits}

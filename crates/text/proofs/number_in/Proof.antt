@@ -1,8 +1,8 @@
 -- `text::number_in` meets its contract. The loop's invariant: the digits that are left, after the number so far, say what all say. Assumes nothing.
 use borrow.Author.Needs.{needs}
-use mathlib.Core.Path.{_≡_, sym, _∙_}
+use mathlib.Core.Path.{_≡_}
 use mathlib.Core.Bool.{true}
-use Prim.Native.Nat.{ℕ, _-_}
+use Prim.Native.Nat.{_-_}
 use native.Mathlib.Omega.{arith}
 use lib.ListN.{length, getD}
 use Rattle.quantity.proofs.Booleans.{refuted, confirmed}

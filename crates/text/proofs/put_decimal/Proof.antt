@@ -1,13 +1,7 @@
 -- `text::put_decimal` meets its contract: it fits, or does not. Assumes nothing.
 use borrow.Author.Needs.{needs}
-use mathlib.Core.Path.{_≡_, sym, ap, _∙_}
-use Prim.Native.Nat.{ℕ, _+_, _-_, _≤_}
-use mathlib.Core.List.{List}
 use native.Mathlib.Omega.{arith}
-use lib.ListN.{length}
-use lib.Seq.{sets}
-use Rattle.text.specs.Decimal.{lastDigits, digitCount, decimal}
-use Rattle.text.specs.Places.{Placed}
+use Rattle.text.specs.Decimal.{decimal}
 use Rattle.text.proofs.Stores.{too-long, decimal-length, decimal-fits}
 use Rattle.text.proofs.put_decimal.Statement.{statement}
 use Rattle.text.proofs.put_decimal.Tie as tie

@@ -1,12 +1,11 @@
 -- `text::put_digits` meets its contract. The loop's invariant: the last j digits stand before the end, and the rest is what is left of the number. Assumes nothing.
-use borrow.Author.Needs.{needs}
-use mathlib.Core.Path.{_≡_, refl, sym, ap, _∙_}
-use Prim.Native.Nat.{ℕ, suc, _≤_, _<_, _+_, _-_, _*_, _/_, _%_, _^_}
+use mathlib.Core.Path.{_≡_, refl, sym}
+use Prim.Native.Nat.{ℕ, _≤_, _-_, _/_, _^_}
 use mathlib.Core.List.{List}
 use native.Mathlib.Nat.{div-one}
 use native.Mathlib.Omega.{arith}
-use lib.ListN.{length, set, length-set}
-use lib.Seq.{sets, length-sets}
+use lib.ListN.{length, length-set}
+use lib.Seq.{sets}
 use Rattle.text.specs.Decimal.{lastDigits}
 use Rattle.text.proofs.Digits.{next-rest}
 use Rattle.text.proofs.Stores.{digit-more}

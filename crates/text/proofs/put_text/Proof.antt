@@ -1,5 +1,4 @@
 -- `text::put_text` meets its contract. The loop's invariant: the first i bytes of the text stand from the place on. Assumes nothing.
-use borrow.Author.Needs.{needs}
 use mathlib.Core.Path.{_≡_, refl}
 use mathlib.Core.List.{List}
 use Prim.Native.Nat.{ℕ, _+_, _-_, _≤_}

@@ -1,7 +1,6 @@
 -- `shaper::frame::earliest_tick` meets its contract: of a bucket, the first tick not below S. Assumes nothing.
 use borrow.Author.Needs.{needs}
-use mathlib.Core.Path.{_≡_, sym, ap, _∙_}
-use Prim.Native.Nat.{ℕ}
+use mathlib.Core.Path.{sym, ap, _∙_}
 use lib.IntN.{ℤ}
 use Rattle.records.specs.ExactTime.{roundedUp, orZero}
 use Rattle.shaper.specs.Frame.{S, earliest}

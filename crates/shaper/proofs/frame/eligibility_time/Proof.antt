@@ -1,7 +1,7 @@
 -- `shaper::frame::eligibility_time` meets its contract. Assumes nothing.
 use borrow.Author.Needs.{needs}
-use mathlib.Core.Path.{_≡_, ap, _∙_}
-use Prim.Native.Nat.{ℕ, max}
+use mathlib.Core.Path.{_∙_}
+use Prim.Native.Nat.{max}
 use Rattle.shaper.specs.Frame.{eligibilityTime}
 use Rattle.shaper.proofs.frame.eligibility_time.Statement.{statement}
 use Rattle.shaper.proofs.frame.eligibility_time.Tie as tie

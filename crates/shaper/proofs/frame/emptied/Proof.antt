@@ -1,7 +1,7 @@
 -- `shaper::frame::emptied` meets its contract: before F, and from F on. Assumes nothing.
 use borrow.Author.Needs.{needs}
 use mathlib.Core.Path.{_≡_, sym, ap, _∙_}
-use Prim.Native.Nat.{ℕ, _≤_, _<_, _*_, _+_}
+use Prim.Native.Nat.{_≤_, _*_, _+_}
 use native.Mathlib.Omega.{arith}
 use lib.IntN.{ℤ, pos, _+ℤ_}
 use lib.Signed.{ltZ}

@@ -1,6 +1,6 @@
 -- `shaper::frame::process_frame` meets its contract: discarded, and released. Assumes nothing.
 use borrow.Author.Needs.{needs}
-use mathlib.Core.Path.{_≡_, sym, ap, _∙_}
+use mathlib.Core.Path.{sym, ap, _∙_}
 use Prim.Native.Nat.{ℕ}
 use native.Mathlib.Omega.{arith}
 use Rattle.quantity.specs.declared.Item.the-variants.{Arrival}

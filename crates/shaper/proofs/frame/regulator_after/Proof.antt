@@ -1,6 +1,6 @@
 -- `shaper::frame::regulator_after` meets its contract, by cases on the regulator. Assumes nothing.
 use borrow.Author.Needs.{needs}
-use mathlib.Core.Path.{_≡_, sym, ap, _∙_}
+use mathlib.Core.Path.{sym, ap, _∙_}
 use Rattle.shaper.specs.Frame.{afterRelease}
 use Rattle.shaper.specs.Steps.{Works, BucketWorks}
 use Rattle.records.specs.declared.Moment.{Moment}
