@@ -8,7 +8,8 @@ use native.Mathlib.Omega.{arith}
 use Rattle.quantity.specs.Kinds.{ticksPerSecond}
 use Rattle.records.specs.Numbers.{isSetUp}
 use Rattle.bridge.specs.Tables.{freshBridge, streamAt}
-use Rattle.bridge.specs.History.{Call, group, stream, frame, afterCall, after, bridgeAfter, history, Outcome, released, discarded, frameOf, outcome, outcomes, Sent, eligible, arriving, bitsIn, WithinBurstAndRate, burstAt, rateAt}
+use Rattle.bridge.specs.History.{Call, group, stream, frame, afterCall, after, bridgeAfter, history, Outcome, released, discarded, frameOf, outcome, outcomes}
+use Rattle.bridge.specs.Spans.{Sent, eligible, arriving, bitsIn, WithinBurstAndRate, burstAt, rateAt}
 use Rattle.bridge.specs.declared.Bridge.{Bridge}
 use Rattle.promises.specs.Demand3.{SpanLimit, Conforms, EligibleOnArrival, EachOf, ConformingArrivals}
 use Rattle.promises.proofs.Sums.{bits-other}

@@ -20,7 +20,8 @@ use Rattle.bridge.specs.Tables.{freshBridge, groupAt, streamAt, withGroup, with
 use Rattle.calls.specs.Calls.{groupTaken, groupPlaced, streamTaken, streamPlaced, judgedAt}
 use Rattle.bridge.specs.Calls.{groupStored, groupCalled, streamStored, streamCalled, frameStored, frameCalled}
 use Rattle.calls.specs.Numbers.{setUpNumber}
-use Rattle.bridge.specs.History.{group, stream, frame, afterCall, after, outcomeOf, outcome, outcomes, history, bridgeAfter, Sent, arriving, bitsIn, WithinBurstAndRate, burstAt, rateAt, reply}
+use Rattle.bridge.specs.History.{group, stream, frame, afterCall, after, outcomeOf, outcome, outcomes, history, bridgeAfter, reply}
+use Rattle.bridge.specs.Spans.{Sent, arriving, bitsIn, WithinBurstAndRate, burstAt, rateAt}
 use Rattle.bridge.specs.declared.Bridge.{Bridge}
 use Rattle.promises.specs.Demand3.{Conforms, EligibleOnArrival, EachOf, ConformingArrivals}
 use Rattle.promises.specs.Examples as examples

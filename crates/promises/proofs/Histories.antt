@@ -23,7 +23,8 @@ use Rattle.admission.proofs.Tests.{Passes}
 use Rattle.records.proofs.Soundness.{SoundOk, sound-ok}
 use Rattle.shaper.proofs.Natural.{X, T-late, T-least, X-after, X-fresh}
 use Rattle.bridge.specs.Tables.{freshBridge, groupAt, streamAt, withGroup, withStream}
-use Rattle.bridge.specs.History.{Call, group, stream, frame, afterCall, after, Outcome, released, discarded, frameOf, outcome, outcomes, burstAt, rateAt}
+use Rattle.bridge.specs.History.{Call, group, stream, frame, afterCall, after, Outcome, released, discarded, frameOf, outcome, outcomes}
+use Rattle.bridge.specs.Spans.{burstAt, rateAt}
 use Rattle.bridge.specs.declared.Bridge.{Bridge}
 use Rattle.bridge.proofs.Views.{NewGroup, NewStream}
 use Rattle.promises.proofs.Trace.{Settings, State, upd-same, upd-other, next, Judged, Ok, Trace}

@@ -6,7 +6,8 @@ use Prim.Native.Nat.{ℕ, _+_, _-_, _*_, _≤_, zero-le}
 use native.Mathlib.Nat.{mul-le-mul-right, mul-sub, le-refl, le-trans}
 use native.Mathlib.Decide.{ℕ-discrete}
 use native.Mathlib.Omega.{arith}
-use Rattle.bridge.specs.History.{Frame, Outcome, released, discarded, frameOf, Sent, arriving, bitsIn, WithinBurstAndRate}
+use Rattle.bridge.specs.History.{Frame, Outcome, released, discarded, frameOf}
+use Rattle.bridge.specs.Spans.{Sent, arriving, bitsIn, WithinBurstAndRate}
 use Rattle.promises.proofs.Trace.{K, Settings, State, fresh, upd, upd-same, upd-other, fill, filled, next, Judged, Trace}
 use Rattle.promises.proofs.Sums.{bits-hit, bits-tail, bits-later}
 

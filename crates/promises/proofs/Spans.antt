@@ -5,7 +5,8 @@ use Prim.Native.Nat.{ℕ, _+_, _-_, _*_, _≤_, max}
 use native.Mathlib.Nat.{mul-le-mul-right}
 use native.Mathlib.Decide.{ℕ-discrete}
 use native.Mathlib.Omega.{arith}
-use Rattle.bridge.specs.History.{Frame, Outcome, released, discarded, Sent, eligible, bitsIn, WithinBurstAndRate}
+use Rattle.bridge.specs.History.{Frame, Outcome, released, discarded}
+use Rattle.bridge.specs.Spans.{Sent, eligible, bitsIn, WithinBurstAndRate}
 use Rattle.promises.proofs.Trace.{K, Settings, State, fresh, upd-same, upd-other, fill, next, Judged, Trace}
 use Rattle.promises.proofs.Sums.{Seen, counted, passed, seen}
 

@@ -7,7 +7,7 @@ use native.Mathlib.Nat.{le-refl}
 use native.Mathlib.Omega.{arith}
 use lib.Dec.{leb, eqb}
 use borrow.Author.Tests.{leb-true, eqb-true, eq-eqb, ne-eqb, le-leb}
-use Rattle.bridge.specs.History.{Sent, bitsIn}
+use Rattle.bridge.specs.Spans.{Sent, bitsIn}
 
 -- one more entry: it counts, or it does not
 pub data Seen (j lo hi : ℕ) (e : Sent) (n m : ℕ) : Type 0 where

@@ -6,7 +6,8 @@ use mathlib.Core.Bool.{true}
 use mathlib.Core.List.{List, [], _∷_}
 use Rattle.records.specs.Numbers.{isSetUp}
 use Rattle.bridge.specs.Tables.{streamAt}
-use Rattle.bridge.specs.History.{Call, history, bridgeAfter, Outcome, released, discarded, frameOf, burstAt, rateAt, eligible, arriving, WithinBurstAndRate}
+use Rattle.bridge.specs.History.{Call, history, bridgeAfter, Outcome, released, discarded, frameOf}
+use Rattle.bridge.specs.Spans.{burstAt, rateAt, eligible, arriving, WithinBurstAndRate}
 
 -- first half: whatever arrives, the bits of one stream that become eligible within any span never exceed its burst plus its rate times the span
 unfoldable pub SpanLimit : Type 0
