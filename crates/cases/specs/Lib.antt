@@ -1,5 +1,6 @@
 pub mod Ranges
 pub mod Orders
+pub mod Soundness
 pub mod Judging
 pub mod Waiting
 pub mod Line

@@ -1,4 +1,4 @@
--- Document 01, 'Numbers returned': each order of refusals. What is tried has every later fault of its order, too, so that the order alone decides.
+-- Document 01, 'Numbers returned': each order of refusals, and the numbers of a run. What is tried has every later fault of its order, too, so that the order alone decides.
 -- b is a bridge, w the waiting places. Each list ends with what is taken.
 use Prim.Native.Nat.{ℕ}
 use mathlib.Core.Path.{_≡_, refl}
@@ -33,7 +33,7 @@ use Rattle.waiting.specs.Answers.{enteredNumber, pickedNumber}
 use Rattle.event.specs.Next.{pick, none, arrivesBy, atCandidate, nextEvent, arrivalStep, pickStep, stepFor, stopNumber}
 use Rattle.event.specs.declared.Step.{Step}
 use Rattle.event.specs.declared.Step.the-variants.{Ends, Arrival, Pick}
-use Rattle.line.specs.Run.{Input, step, begun, stopped, listsFit, lineFits, startOf, startAt, startedBy, runFor, onward, runGives}
+use Rattle.line.specs.Run.{Input, sendingTicks, step, begun, stopped, listsFit, lineFits, startOf, startAt, startedBy, runFor, onward, runGives}
 use Rattle.tablefile.specs.Answers.{readingNumber, writtenNumber}
 use Rattle.tablefile.specs.BigEndian.{bigEndian, number}
 use Rattle.tablefile.specs.Layout.{kinds, total, size, fieldBytes, fieldNumbers, bytesOf}
@@ -177,6 +177,10 @@ ofLists =
     ∷ listsFit 2 2 2 0 1
     ∷ []
 
+-- how long a line sends, taken up to a whole tick: 16.8 ticks, and 672 that need no rounding
+unfoldable pub ofSending : List ℕ
+ofSending = sendingTicks 168 10_000_000_000 ∷ sendingTicks 672 1_000_000_000 ∷ []
+
 -- the number of a stop
 abbrev pub stopOf : Step → List ℕ
 stopOf (Ends why) = stopNumber why ∷ []
@@ -262,6 +266,10 @@ reading = refl
 pub writing : ofWriting ≡ 26 ∷ 0 ∷ []
 unfolding ofWriting writeTo writeOf bytesOf fieldBytes bigEndian
 writing = refl
+
+pub sending : ofSending ≡ 17 ∷ 672 ∷ []
+unfolding ofSending sendingTicks
+sending = refl
 
 pub stops : ofStops ≡ (0 ∷ []) ∷ (3 ∷ []) ∷ (27 ∷ []) ∷ (4 ∷ []) ∷ (4 ∷ []) ∷ [] ∷ []
 unfolding ofStops stepFor arrivalStep pickStep stopNumber inRange
