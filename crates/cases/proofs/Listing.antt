@@ -2,6 +2,7 @@
 use mathlib.Core.Path.{refl}
 use lib.Dec.{lit≤}
 use lib.ListN.{drop}
+use Rattle.reader.specs.Figures.{exampleFile}
 use Rattle.quantity.specs.Ranges.{inRange}
 use Rattle.quantity.specs.Charge.{chargedBits}
 use Rattle.records.specs.ExactTime.{exactly, momentOf, roundedUp, E-first}
@@ -27,7 +28,7 @@ use Rattle.report.specs.Records.{callOf, recordLine}
 use Rattle.report.specs.Parts.{onto, mayGoOn, goingOn, stopsAt, partFor, partOf}
 use Rattle.report.proofs.Promises.{listing-in-parts, listing-to-its-end}
 use Rattle.lines.proofs.Promises.{end-within}
-use Rattle.cases.specs.TableFile.{exampleFile, lent}
+use Rattle.cases.specs.TableFile.{lent}
 use Rattle.cases.specs.Listing.{cutFile, ListingExamples}
 use Rattle.cases.proofs.Bytes.{are-bytes}
 

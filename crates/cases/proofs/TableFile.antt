@@ -7,10 +7,10 @@ use Rattle.tablefile.specs.Layout.{kinds, total, fieldBytes, fieldNumbers, size
 use Rattle.reader.specs.Reader.{isMark, markedAmong, readFields, readMarked, readLeft, readAt}
 use Rattle.reader.specs.File.{no-record, and-record, fileOf}
 use Rattle.writer.specs.Writer.{writeOf, writeTo}
-use Rattle.reader.specs.Figures.{group-line, frame-line}
+use Rattle.reader.specs.Figures.{group-line, frame-line, exampleFile}
 use Rattle.reader.proofs.RoundTrip.{reads-back, writes-back, found-in-the-whole, same-bytes, file-reads-back, file-writes-back}
 use Rattle.promises.proofs.RoundTrip.{written-is-read, read-is-written, refused-stays, nothing-without-record}
-use Rattle.cases.specs.TableFile.{exampleFile, groupRecord, streamRecord, frameRecord, exampleRecords, streamOfItsLine, lent, TableFileExamples}
+use Rattle.cases.specs.TableFile.{groupRecord, streamRecord, frameRecord, exampleRecords, streamOfItsLine, lent, TableFileExamples}
 use Rattle.cases.proofs.Bytes.{are-bytes}
 
 group-fits : Fits groupRecord

@@ -4,6 +4,7 @@ use lib.Dec.{lit≤}
 use lib.ListN.{drop}
 use Prim.Native.Nat.{ℕ}
 use native.Mathlib.Omega.{arith}
+use Rattle.reader.specs.Figures.{exampleFile}
 use Rattle.quantity.specs.Ranges.{inRange}
 use Rattle.quantity.specs.declared.Refusal.{Refusal}
 use Rattle.quantity.specs.declared.Refusal.the-variants.{SetUpBefore}
@@ -21,7 +22,6 @@ use Rattle.yard.specs.declared.End.the-variants.{NotSetUp}
 use Rattle.yard.specs.Gathering.{ended, hasRoom, taskOf, taskFor, roomIn, taskAt, called, setUpTaken, afterSetUp, setUp, frameTaken, onward, gatherFor, gatherFrom, begun}
 use Rattle.yard.specs.Promises.{WantsMore, nothing-left, cut-short, next}
 use Rattle.yard.proofs.Promises.{from-any-place, parts-are-one, ends-for-good}
-use Rattle.cases.specs.TableFile.{exampleFile}
 use Rattle.cases.specs.Listing.{cutFile}
 use Rattle.cases.specs.Yard.{beginning, oneGroup, setUps, groupTwice, YardExamples}
 use Rattle.cases.proofs.Bytes.{are-bytes}

@@ -7,8 +7,7 @@ use mathlib.Core.List.{List, [], _∷_}
 use lib.IntN.{pos}
 use lib.ListN.{length, replicate}
 use Rattle.quantity.specs.Kinds.{ticks}
-use Rattle.quantity.specs.Numbers.{numberOf}
-use Rattle.quantity.specs.declared.Refusal.the-variants.{Unsound}
+use Rattle.quantity.specs.Numbers.{leastRefusal}
 use Rattle.records.specs.Numbers.{isSetUp, answerNumber}
 use Rattle.records.specs.declared.Answer.the-variants.{Released}
 use Rattle.calls.specs.Calls.{groupPlaced, streamPlaced}
@@ -56,16 +55,16 @@ pub record InterruptSideExamples : Type 0 where
   pub own-changes : frameIn 0 0 64 .streams ≡ tables .streams → ⊥
   -- RefusedStays: a lent group that is not the stream's gets 9, a stream that is not set up 10, a frame of 2,001 octets 11
   pub other-group-9 : answerNumber (frameIn 1 0 64 .answer) ≡ 9
-  pub other-group : numberOf Unsound ≤ answerNumber (frameIn 1 0 64 .answer)
+  pub other-group : leastRefusal ≤ answerNumber (frameIn 1 0 64 .answer)
   pub no-stream : answerNumber (frameIn 0 2 64 .answer) ≡ 10
   pub long-frame : answerNumber (frameIn 0 0 2_001 .answer) ≡ 11
   -- RefusedStaysForC: a frame of 64 octets gets 0, one of 2,001 gets 11
   pub released-for-C : frameOfC 64 .number ≡ 0
   pub refused-11 : frameOfC 2_001 .number ≡ 11
-  pub refused-for-C : numberOf Unsound ≤ frameOfC 2_001 .number
+  pub refused-for-C : leastRefusal ≤ frameOfC 2_001 .number
   -- RefusedGroupStays: group 0 is set up a second time, and gets 16
   pub group-again-16 : groupTold (groupPlaced 0 (groupOf groupOfC) 6 224_000) .number ≡ 16
-  pub group-again : numberOf Unsound ≤ groupTold (groupPlaced 0 (groupOf groupOfC) 6 224_000) .number
+  pub group-again : leastRefusal ≤ groupTold (groupPlaced 0 (groupOf groupOfC) 6 224_000) .number
   -- RefusedStreamStays: a rate of 999 gets 18, in a record that holds old numbers
   pub low-rate-18 : streamTold leftOver (streamPlaced 2 (streamOf leftOver) 0 (groupOf groupOfC) 999 1_344) .number ≡ 18
-  pub low-rate : numberOf Unsound ≤ streamTold leftOver (streamPlaced 2 (streamOf leftOver) 0 (groupOf groupOfC) 999 1_344) .number
+  pub low-rate : leastRefusal ≤ streamTold leftOver (streamPlaced 2 (streamOf leftOver) 0 (groupOf groupOfC) 999 1_344) .number

@@ -4,6 +4,7 @@ use Prim.Native.Nat.{ℕ, _≤_}
 use mathlib.Core.Path.{_≡_}
 use mathlib.Core.List.{List, _++_}
 use lib.ListN.{length, take}
+use Rattle.reader.specs.Figures.{exampleFile}
 use Rattle.tablefile.specs.BigEndian.{AreBytes}
 use Rattle.tablefile.specs.Answers.{nothingLeft, readingNumber}
 use Rattle.tablefile.specs.declared.Reading.the-variants.{NothingLeft}
@@ -11,7 +12,7 @@ use Rattle.bridge.specs.Tables.{freshBridge}
 use Rattle.lines.specs.Places.{endPut}
 use Rattle.report.specs.Parts.{Part, partOf}
 use Rattle.report.specs.Figures.{line-1, line-2, line-3, line-4, line-5}
-use Rattle.cases.specs.TableFile.{exampleFile, lent}
+use Rattle.cases.specs.TableFile.{lent}
 
 -- the group, the stream, and 5 of the 13 bytes of the first frame
 abbrev pub cutFile : List ℕ

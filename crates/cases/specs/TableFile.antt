@@ -2,7 +2,7 @@
 -- Each field of the record is a premise at these values, or what comes of it. Places and widths are plain numbers.
 use Prim.Native.Nat.{ℕ, _-_, _≤_}
 use mathlib.Core.Path.{_≡_}
-use mathlib.Core.List.{List, [], _∷_, _++_}
+use mathlib.Core.List.{List, [], _∷_}
 use lib.ListN.{length, drop, replicate}
 use Rattle.tablefile.specs.Answers.{writtenNumber, readingNumber, nothingLeft}
 use Rattle.quantity.specs.Numbers.{leastRefusal}
@@ -15,14 +15,10 @@ use Rattle.tablefile.specs.declared.Reading.the-variants.{Found}
 use Rattle.tablefile.specs.declared.Written.the-variants.{Bytes}
 use Rattle.reader.specs.Reader.{readAt}
 use Rattle.reader.specs.File.{AllFit, fileOf}
-use Rattle.reader.specs.Figures.{group-line, stream-line, frame-line}
+use Rattle.reader.specs.Figures.{stream-line, exampleFile}
 use Rattle.writer.specs.Writer.{writeTo}
 
--- the example file: a group, a stream and three frames
-abbrev pub exampleFile : List ℕ
-exampleFile = group-line ++ (stream-line ++ (frame-line ++ (frame-line ++ frame-line)))
-
--- the same as records
+-- the records of the example file
 abbrev pub groupRecord : Record
 groupRecord = Group 0 6 (ticks 224_000)
 

@@ -6,14 +6,14 @@ use mathlib.Core.List.{List, [], _∷_, _++_}
 use lib.ListN.{length, drop}
 use Rattle.quantity.specs.declared.Refusal.the-variants.{SetUpBefore}
 use Rattle.tablefile.specs.BigEndian.{AreBytes}
-use Rattle.reader.specs.Figures.{group-line, stream-line}
+use Rattle.reader.specs.Figures.{group-line, stream-line, exampleFile}
 use Rattle.bridge.specs.Tables.{freshBridge}
 use Rattle.bridge.specs.History.{group, bridgeAfter}
 use Rattle.bridge.specs.declared.Bridge.{Bridge}
 use Rattle.yard.specs.declared.End.the-variants.{NotSetUp}
 use Rattle.yard.specs.Gathering.{State, gatherFrom, begun}
 use Rattle.yard.specs.Promises.{WantsMore, next}
-use Rattle.cases.specs.TableFile.{exampleFile, lent}
+use Rattle.cases.specs.TableFile.{lent}
 use Rattle.cases.specs.Listing.{cutFile}
 
 -- a gathering into three lists of three places begins

@@ -20,8 +20,12 @@ stream-line = 0x53 ∷ 0x54 ∷ 0x00 ∷ 0x00 ∷ 0x00 ∷ 0x00 ∷ 0x00 ∷ 0x0
 abbrev pub frame-line : List ℕ
 frame-line = 0x46 ∷ 0x52 ∷ 0x00 ∷ 0x00 ∷ 0x40 ∷ 0x00 ∷ 0x00 ∷ 0x00 ∷ 0x00 ∷ 0x00 ∷ 0x00 ∷ 0x00 ∷ 0x00 ∷ []
 
+-- the file
+abbrev pub exampleFile : List ℕ
+exampleFile = group-line ++ (stream-line ++ (frame-line ++ (frame-line ++ frame-line)))
+
 -- group 0 in class 6 with 224,000 ticks; stream 0 of group 0 with 9,000,000 and 1,344; three frames of 64 octets at 0
-pub example : contents (group-line ++ (stream-line ++ (frame-line ++ (frame-line ++ frame-line))))
+pub example : contents exampleFile
     ≡ record {
       records =
           Group 0 6 (ticks 224_000)

@@ -25,7 +25,7 @@ use Rattle.reader.specs.File.{answers, contentsFrom, onwards}
 use Rattle.tablefile.specs.Layout.{kinds, fieldNumbers, total, size}
 use Rattle.reader.specs.Reader.{readAt, readLeft, readMarked, markedAmong, isMark, readFields}
 use Rattle.text.specs.Decimal.{digit, lastDigits, fewest, digitCount, decimal}
-use Rattle.reader.specs.Figures.{group-line, stream-line, frame-line}
+use Rattle.reader.specs.Figures.{exampleFile}
 
 -- 1 GR 0 -
 abbrev pub line-1 : List ℕ
@@ -51,7 +51,7 @@ line-5 = 53 ∷ 32 ∷ 70 ∷ 82 ∷ 32 ∷ 48 ∷ 32 ∷ 55 ∷ 52 ∷ 54 ∷ 5
 abbrev pub last-line : List ℕ
 last-line = 101 ∷ 110 ∷ 100 ∷ 32 ∷ 53 ∷ 10 ∷ []
 
-pub example : listing (group-line ++ (stream-line ++ (frame-line ++ (frame-line ++ frame-line))))
+pub example : listing exampleFile
     ≡ line-1 ++ (line-2 ++ (line-3 ++ (line-4 ++ (line-5 ++ last-line))))
 unfolding listingOf recordLines ending endLine recordLine lineOf column callOf reply afterCall groupCalled groupStored groupPlaced groupTaken streamCalled streamStored streamPlaced streamTaken frameCalled frameStored judgedAt groupAt streamAt withGroup withStream freshBridge setUpNumber groupSetUp streamSetUp freshStream freshGroup judged afterTests tested answerNumber answerValues aboveBurst sound soundGroup soundRegulator inRange processFrame settled discarded released eligibilityTime earliest afterRelease E-first S F E-after exactly momentOf roundedUp chargedBits contentsFrom answers onwards readAt readLeft readMarked markedAmong kinds isMark readFields fieldNumbers number total size digit lastDigits fewest digitCount decimal
 example = refl
