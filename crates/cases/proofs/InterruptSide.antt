@@ -42,6 +42,7 @@ interrupt-side-examples = record {
   long-frame = refl;
   released-for-C = refl;
   refused-11 = refl;
+  refused-9 = refl;
   refused-for-C = lit≤ tt;
   group-again-16 = refl;
   group-again = lit≤ tt;
@@ -56,7 +57,7 @@ interrupt-side-premises x =
     let same = same-as-frame-call tables 0 0 64 0 (x .run-length) (x .its-group) in
     let others = others-stay 0 (groupAt tables 0) (tables .streams) 0 64 0 1 (x .other) in
     let stays = refused-stays 1 (groupAt tables 0) (tables .streams) 0 64 0 (x .other-group) in
-    let stays-for-C = refused-stays-for-C 0 groupOfC streamsOfC 0 2_001 0 777 (x .refused-for-C) in
+    let stays-for-C = refused-stays-for-C 1 groupOfC streamsOfC 0 64 0 777 (x .refused-for-C) in
     let group-stays = refused-group-stays 0 groupOfC 6 224_000 (x .group-again) in
     let stream-stays = refused-stream-stays 2 leftOver 0 groupOfC 999 1_344 (x .low-rate) in
     tt

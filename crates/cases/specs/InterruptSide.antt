@@ -39,9 +39,9 @@ groupOfC = groupRecord (groupAt tables 0)
 abbrev pub streamsOfC : List StreamRecord
 streamsOfC = streamRecords (replicate runPlaces leftOver) (tables .streams)
 
--- a frame of stream 0 at tick 0 in them; the caller's time is 777
-abbrev pub frameOfC : ℕ → FrameReceived
-frameOfC octets = frameReceived 0 groupOfC streamsOfC 0 octets 0 777
+-- a frame of stream 0 at tick 0 in them, the group's record under some id; the caller's time is 777
+abbrev pub frameOfC : ℕ → ℕ → FrameReceived
+frameOfC lent octets = frameReceived lent groupOfC streamsOfC 0 octets 0 777
 
 pub record InterruptSideExamples : Type 0 where
   -- SameAsFrameCall: the run has its 64 places, stream 0 is set up, and it is of the lent group; its frame is released
@@ -58,10 +58,11 @@ pub record InterruptSideExamples : Type 0 where
   pub other-group : leastRefusal ≤ answerNumber (frameIn 1 0 64 .answer)
   pub no-stream : answerNumber (frameIn 0 2 64 .answer) ≡ 10
   pub long-frame : answerNumber (frameIn 0 0 2_001 .answer) ≡ 11
-  -- RefusedStaysForC: a frame of 64 octets gets 0, one of 2,001 gets 11
-  pub released-for-C : frameOfC 64 .number ≡ 0
-  pub refused-11 : frameOfC 2_001 .number ≡ 11
-  pub refused-for-C : leastRefusal ≤ frameOfC 2_001 .number
+  -- RefusedStaysForC: a frame of 64 octets gets 0, and 9 where the lent group is not the stream's; one of 2,001 gets 11
+  pub released-for-C : frameOfC 0 64 .number ≡ 0
+  pub refused-11 : frameOfC 0 2_001 .number ≡ 11
+  pub refused-9 : frameOfC 1 64 .number ≡ 9
+  pub refused-for-C : leastRefusal ≤ frameOfC 1 64 .number
   -- RefusedGroupStays: group 0 is set up a second time, and gets 16
   pub group-again-16 : groupTold (groupPlaced 0 (groupOf groupOfC) 6 224_000) .number ≡ 16
   pub group-again : leastRefusal ≤ groupTold (groupPlaced 0 (groupOf groupOfC) 6 224_000) .number
