@@ -19,7 +19,7 @@ use Rattle.bridge.specs.Tables.{freshBridge, groupAt, streamAt, noStream, withG
 use Rattle.bridge.specs.Calls.{groupStored, groupCalled, streamStored, streamCalled}
 use Rattle.bridge.specs.History.{afterCall, after}
 use Rattle.lent.specs.InPlace.{judgedIn, received}
-use Rattle.firmware.specs.Firmware.{groupOf, groupRecord, streamOf, rewritten, streamRecord, streamRecords, groupTold, streamTold, lentAfter, frameReceived}
+use Rattle.firmware.specs.Firmware.{groupOf, groupRecord, streamOf, rewritten, streamRecord, streamRecords, groupTold, streamTold, lentAfter, frameReceived, timeAfter}
 use Rattle.receive.specs.Promises.{SameAsFrameCall, OthersStay, RefusedStays}
 use Rattle.receive.proofs.Promises.{same-as-frame-call, others-stay, refused-stays}
 use Rattle.firmware.specs.Promises.{RefusedStaysForC, RefusedGroupStays, RefusedStreamStays}
@@ -27,7 +27,7 @@ use Rattle.firmware.proofs.Promises.{refused-stays-for-C, refused-group-stays, 
 use Rattle.cases.specs.InterruptSide.{tables, leftOver, groupOfC, streamsOfC, InterruptSideExamples}
 
 pub interrupt-side-examples : InterruptSideExamples
-unfolding afterCall freshBridge groupAt streamAt withGroup withStream groupCalled groupStored groupPlaced groupTaken streamCalled streamStored streamPlaced streamTaken groupSetUp streamSetUp freshGroup freshStream judged afterTests tested aboveBurst sound soundGroup soundRegulator inRange processFrame settled released eligibilityTime earliest afterRelease E-first S F E-after exactly momentOf roundedUp chargedBits after setUpNumber answerNumber judgedIn received groupOf groupRecord streamOf rewritten streamRecord streamRecords groupTold streamTold lentAfter frameReceived
+unfolding timeAfter afterCall freshBridge groupAt streamAt withGroup withStream groupCalled groupStored groupPlaced groupTaken streamCalled streamStored streamPlaced streamTaken groupSetUp streamSetUp freshGroup freshStream judged afterTests tested aboveBurst sound soundGroup soundRegulator inRange processFrame settled released eligibilityTime earliest afterRelease E-first S F E-after exactly momentOf roundedUp chargedBits after setUpNumber answerNumber judgedIn received groupOf groupRecord streamOf rewritten streamRecord streamRecords groupTold streamTold lentAfter frameReceived
 interrupt-side-examples = record {
   run-length = refl;
   set-up = refl;
@@ -41,6 +41,7 @@ interrupt-side-examples = record {
   no-stream = refl;
   long-frame = refl;
   released-for-C = refl;
+  time-for-C = refl;
   refused-11 = refl;
   refused-9 = refl;
   refused-for-C = lit≤ tt;

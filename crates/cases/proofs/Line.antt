@@ -36,7 +36,7 @@ use Rattle.event.specs.declared.Stop.{Stop}
 use Rattle.event.specs.declared.Stop.the-variants.{Done, BudgetSpent, TooLate, PicksFull, Refused}
 use Rattle.event.specs.declared.Step.the-variants.{Ends, Arrival}
 use Rattle.line.specs.Run as run
-use Rattle.line.specs.Run.{Input, State, step, handed, entered, frameAt, groupOf, settledAt, arrived, sendingTicks, sent, pickedAt, stopped, onward, runFor, begun, listsFit, lineFits, startOf, startAt, startedBy, runGives}
+use Rattle.line.specs.Run.{Input, State, step, handed, entered, frameAt, groupOf, settledAt, arrived, sendingTicks, sent, pickedAt, stopped, onward, runFor, begun, listsFit, lineFits, startOf, startAt, startedBy, runGives, ranValues, valuesWith}
 use Rattle.line.specs.Events.{stops, arrives, picks}
 use Rattle.line.specs.Promises.{Sound, continued}
 use Rattle.line.proofs.Promises.{refused-changes-nothing, events-are-counted, history-of-frames, numbers-of-frames, released-enter, lists-are-written, other-places-stay, none-before-its-time, none-overlap, nothing-lost-or-doubled}
@@ -79,18 +79,20 @@ not-refused why e =
     omega arith
 
 pub line-examples : LineExamples
-unfolding continued step handed entered frameAt groupOf settledAt arrived sendingTicks sent pickedAt stopped onward runFor begun listsFit lineFits startOf startAt startedBy runGives run.settled arrivesBy atCandidate nextEvent arrivalStep pickStep stepFor stopNumber nothing notEntered enterGives withLast hasRoom allSound classSound every soundAt entrySound inRange entryAt countOf pickGives takeDue takeGives without closed moved dueOf dueBelow dueOr firstOf firstIn firstFrom part smallestOf smallestBelow smaller afterCall freshBridge groupAt streamAt withGroup withStream groupCalled groupStored groupPlaced groupTaken streamCalled streamStored streamPlaced streamTaken frameCalled frameStored judgedAt groupSetUp streamSetUp freshGroup freshStream judged afterTests tested aboveBurst sound soundGroup soundRegulator processFrame settled released eligibilityTime earliest afterRelease E-first S F E-after exactly momentOf roundedUp chargedBits after answerNumber
+unfolding continued step handed entered frameAt groupOf settledAt arrived sendingTicks sent pickedAt stopped onward runFor begun listsFit lineFits startOf startAt startedBy runGives ranValues valuesWith run.settled arrivesBy atCandidate nextEvent arrivalStep pickStep stepFor stopNumber nothing notEntered enterGives withLast hasRoom allSound classSound every soundAt entrySound inRange entryAt countOf pickGives takeDue takeGives without closed moved dueOf dueBelow dueOr firstOf firstIn firstFrom part smallestOf smallestBelow smaller afterCall freshBridge groupAt streamAt withGroup withStream groupCalled groupStored groupPlaced groupTaken streamCalled streamStored streamPlaced streamTaken frameCalled frameStored judgedAt groupSetUp streamSetUp freshGroup freshStream judged afterTests tested aboveBurst sound soundGroup soundRegulator processFrame settled released eligibilityTime earliest afterRelease E-first S F E-after exactly momentOf roundedUp chargedBits after answerNumber
 line-examples = record {
   sound = begins-sound 3;
   done = (_, arrives refl (arrives refl (arrives refl (picks (ticks 0) refl (picks (ticks 672) refl (picks (ticks 74_667) refl (stops refl)))))));
   answers = refl;
   picked = refl;
   moments = refl;
+  done-values = refl;
   budget-spent = (_, arrives refl (arrives refl (arrives refl (picks (ticks 0) refl (stops refl)))));
   not-reached = lit≤ tt;
   two-places = begins-sound 2;
   picks-full = (_, arrives refl (arrives refl (arrives refl (picks (ticks 0) refl (picks (ticks 672) refl (stops refl))))));
   too-late = (_, arrives refl (arrives refl (arrives refl (picks (ticks 4_000_000_000_000_000_000) refl (stops refl)))));
+  late-values = refl;
   full-sound = record { shaped = record { times = refl; handles = refl; bits = refl; fills = refl }; sound = refl };
   one-more = full-run;
   gets-22 = refl;

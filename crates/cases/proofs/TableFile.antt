@@ -29,12 +29,14 @@ table-file-examples = record {
   its-bytes = refl;
   are-bytes = are-bytes exampleFile refl;
   found = refl;
+  found-values = refl;
   fits-too = stream-fits;
   same-bytes = refl;
   all-fit = and-record group-fits (and-record stream-fits (and-record frame-fits (and-record frame-fits (and-record frame-fits no-record))));
   default-fits = and-field {w = 1} {v = 0} (omega arith) (and-field {w = 1} {v = 6} (omega arith) no-field);
   their-bytes = refl;
   written = refl;
+  written-values = refl;
   room = omega arith;
   too-short = lit≤ tt;
   at-the-end = lit≤ tt;

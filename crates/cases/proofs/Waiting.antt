@@ -39,6 +39,7 @@ waiting-examples = record {
   thirty-third = refl;
   three-wait = reached-is-sound withNine nine-reached .0;
   seven-first = refl;
+  seven-values = refl;
   then-eight = refl;
   nine-before = refl;
   picked = picked;

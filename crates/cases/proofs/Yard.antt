@@ -38,6 +38,7 @@ no-more why cut-short p =
 pub yard-examples : YardExamples
 unfolding gatherFrom gatherFor begun next onward frameTaken setUp afterSetUp setUpTaken called taskAt roomIn taskFor taskOf hasRoom ended after afterCall groupCalled groupStored groupPlaced groupTaken streamCalled streamStored streamPlaced streamTaken groupAt streamAt withGroup withStream freshBridge groupSetUp streamSetUp freshStream freshGroup soundGroup inRange readAt readLeft readMarked markedAmong kinds isMark readFields fieldNumbers number total size
 yard-examples = record {
+  default-residence = refl;
   place-in-file = lit≤ tt;
   at-front = lit≤ tt;
   four-records = refl;

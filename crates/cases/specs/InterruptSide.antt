@@ -58,8 +58,9 @@ pub record InterruptSideExamples : Type 0 where
   pub other-group : leastRefusal ≤ answerNumber (frameIn 1 0 64 .answer)
   pub no-stream : answerNumber (frameIn 0 2 64 .answer) ≡ 10
   pub long-frame : answerNumber (frameIn 0 0 2_001 .answer) ≡ 11
-  -- RefusedStaysForC: a frame of 64 octets gets 0, and 9 where the lent group is not the stream's; one of 2,001 gets 11
+  -- RefusedStaysForC: a frame of 64 octets gets 0 and its T, and 9 where the lent group is not the stream's; one of 2,001 gets 11
   pub released-for-C : frameOfC 0 64 .number ≡ 0
+  pub time-for-C : frameOfC 0 64 .time ≡ 0
   pub refused-11 : frameOfC 0 2_001 .number ≡ 11
   pub refused-9 : frameOfC 1 64 .number ≡ 9
   pub refused-for-C : leastRefusal ≤ frameOfC 1 64 .number

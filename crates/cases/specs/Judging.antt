@@ -1,5 +1,5 @@
 -- Document 01, 'One frame through a scheduler', 'The table file' and 'Errors that look right': numbers that the P rows do not show.
--- b is a bridge; an answer is its number, and T where there is one.
+-- An answer is its number, and T where there is one.
 use Prim.Native.Nat.{ℕ}
 use mathlib.Core.Path.{_≡_, refl}
 use mathlib.Core.List.{List, [], _∷_}

@@ -13,7 +13,7 @@ use Rattle.bridge.specs.declared.Bridge.{Bridge}
 use Rattle.event.specs.Next.{stopNumber}
 use Rattle.event.specs.declared.Stop.{Stop}
 use Rattle.event.specs.declared.Stop.the-variants.{Done, BudgetSpent, TooLate, PicksFull, Refused}
-use Rattle.line.specs.Run.{Input, State, begun, runGives}
+use Rattle.line.specs.Run.{Input, State, begun, runGives, ranValues}
 use Rattle.line.specs.Events.{Takes}
 use Rattle.line.specs.Promises.{Sound, continued}
 use Rattle.promises.specs.Examples.{yard}
@@ -52,6 +52,7 @@ pub record LineExamples : Type 0 where
   pub answers : runGives (threeFrames 0) 10 (beginning nothing 3) .answers ≡ 0 ∷ 0 ∷ 0 ∷ []
   pub picked : runGives (threeFrames 0) 10 (beginning nothing 3) .picked ≡ 0 ∷ 1 ∷ 2 ∷ []
   pub moments : runGives (threeFrames 0) 10 (beginning nothing 3) .moments ≡ 0 ∷ 672 ∷ 74_667 ∷ []
+  pub done-values : ranValues (runGives (threeFrames 0) 10 (beginning nothing 3) .ran) ≡ 3 ∷ 75_339 ∷ 6 ∷ 3 ∷ []
   -- a budget of 4 is spent after one pick
   pub budget-spent : Stops (threeFrames 0) 4 (beginning nothing 3) 4 BudgetSpent
   -- OtherPlacesStay: it does not reach the last place for picks
@@ -61,6 +62,7 @@ pub record LineExamples : Type 0 where
   pub picks-full : Stops (threeFrames 0) 10 (beginning nothing 2) 5 PicksFull
   -- three frames at the last tick that an arrival may have: one is picked, and the second would be picked too late
   pub too-late : Stops (threeFrames 4_000_000_000_000_000_000) 10 (beginning nothing 3) 4 TooLate
+  pub late-values : ranValues (runGives (threeFrames 4_000_000_000_000_000_000) 10 (beginning nothing 3) .ran) ≡ 3 ∷ 4_000_000_000_000_000_672 ∷ 4 ∷ 1 ∷ []
   -- 32 entries of class 6 wait already: the first frame is released, and gets 22
   pub full-sound : Sound (beginning classSixFull 3)
   pub one-more : Stops (threeFrames 0) 1 (beginning classSixFull 3) 1 BudgetSpent

@@ -1,5 +1,5 @@
--- Document 01, 'Numbers returned': each order of refusals, and the numbers of a run. What is tried has every later fault of its order, too, so that the order alone decides.
--- b is a bridge, w the waiting places. Each list ends with what is taken.
+-- Document 01, 'Numbers returned': each order of refusals, and the numbers of a run. What is tried has every later fault of its order that can stand beside it, so that the order alone decides.
+-- b is a bridge, w the waiting places.
 use Prim.Native.Nat.{ℕ}
 use mathlib.Core.Path.{_≡_, refl}
 use mathlib.Core.Bool.{Bool, true, false}
@@ -68,9 +68,9 @@ numberOn b x = reply b x .number
 -- 10 twice, above 63 and not set up; 9, 11, 12, 13, 14; and at the last arrival itself
 unfoldable pub ofFrames : List ℕ
 ofFrames =
-    numberOn harmed (frame 64 0 tooLate)
-    ∷ numberOn harmed (frame 1 0 tooLate)
-    ∷ numberOn harmed (frame 0 0 tooLate)
+    numberOn harmed (frame 64 2_001 tooLate)
+    ∷ numberOn harmed (frame 1 2_001 tooLate)
+    ∷ numberOn harmed (frame 0 2_001 tooLate)
     ∷ numberOn later (frame 0 2_001 tooLate)
     ∷ numberOn later (frame 0 149 tooLate)
     ∷ numberOn later (frame 0 64 tooLate)
@@ -151,7 +151,7 @@ ofClasses =
 abbrev pub inputOf : List ℕ → ℕ → Input
 inputOf octets rate = record { arrivals = 0 ∷ []; ids = 0 ∷ []; octets = octets; rate = rate }
 
--- a run of one frame that is to make no event, with so many answers; its stop's number
+-- a run of one frame that is to make no event; its stop's number
 abbrev pub runNumber : List ℕ → ℕ → Waiting → ℕ → ℕ → ℕ
 runNumber octets rate w start free = stopNumber (runGives (inputOf octets rate) 0 (begun yard w start free (0 ∷ []) [] []) .ran .stop)
 
@@ -167,7 +167,7 @@ ofRuns =
     ∷ runNumber (64 ∷ []) 10_000_000_000 alone 1 5_000_000_000_000_000_000
     ∷ []
 
--- input lists of 65,536 places and of one more; the start at the end and beyond it; an answer list that is as long, and one that is shorter
+-- input lists of 65,536 places and of one more; the start at the end and beyond it; lists of unequal length; an answer list that is as long, and one that is shorter
 unfoldable pub ofLists : List Bool
 ofLists =
     listsFit 65_536 65_536 65_536 65_536 65_536
@@ -200,7 +200,7 @@ ofStops =
 
 -- ---- the table file
 
--- no byte left; one byte left that begins a mark, and one that begins none; two that are no mark, whatever follows; a GD cut short; a GD
+-- no byte left; one byte left that begins a mark, and one that begins none; two that are no mark; a GD cut short; a GD
 unfoldable pub ofReading : List ℕ
 ofReading =
     readingNumber (readAt [] 0)
@@ -224,7 +224,7 @@ ofWriting =
 abbrev pub lentNumber : ℕ → Group → ℕ → ℕ → ℕ → ℕ
 lentNumber i g places k n = answerNumber (received i g (replicate places (streamAt yard 0)) k n 0 .answer)
 
--- 9 for the length, before 10 for the stream; 9 for another group, before what the group's record holds, and for that record; 11
+-- 9 for the length, before 10 for the stream; 9 for another group, whose record is sound, and for a record that is not; 11
 unfoldable pub ofLent : List ℕ
 ofLent =
     lentNumber 1 unsoundGroup 63 64 0

@@ -4,7 +4,8 @@ use Prim.Native.Nat.{ℕ, _-_, _≤_}
 use mathlib.Core.Path.{_≡_}
 use mathlib.Core.List.{List, [], _∷_}
 use lib.ListN.{length, drop, replicate}
-use Rattle.tablefile.specs.Answers.{writtenNumber, readingNumber, nothingLeft}
+use mathlib.Core.Option.{some}
+use Rattle.tablefile.specs.Answers.{writtenNumber, readingNumber, nothingLeft, readingValues, writtenValues}
 use Rattle.quantity.specs.Numbers.{leastRefusal}
 use Rattle.quantity.specs.Kinds.{ticks, perSecond}
 use Rattle.tablefile.specs.BigEndian.{AreBytes}
@@ -46,6 +47,7 @@ pub record TableFileExamples : Type 0 where
   -- WritesBack, FoundInTheWhole, FileWritesBack: the file is bytes, and at place 12 the stream's record is found, up to place 28
   pub are-bytes : AreBytes exampleFile
   pub found : readAt exampleFile 12 ≡ Found streamRecord 28
+  pub found-values : readingValues (readAt exampleFile 12) ≡ some (streamRecord, 28)
   -- SameBytes: the stream's record, and the one that its line has
   pub fits-too : Fits streamOfItsLine
   pub same-bytes : bytesOf streamRecord ≡ bytesOf streamOfItsLine
@@ -55,6 +57,7 @@ pub record TableFileExamples : Type 0 where
   pub their-bytes : fileOf exampleRecords ≡ exampleFile
   -- WrittenIsRead: the stream's record is written into a part of 20 places
   pub written : writeTo streamRecord (lent 20) .answer ≡ Bytes 16
+  pub written-values : writtenValues (writeTo streamRecord (lent 20) .answer) ≡ some 16
   -- ReadIsWritten: the part has room for the bytes that were read
   pub room : 28 - 12 ≤ length (lent 20)
   -- RefusedStays: 15 places are too few for its 16 bytes

@@ -15,7 +15,7 @@ use Rattle.firsts.specs.declared.Smallest.the-variants.{Time, NothingWaits}
 use Rattle.firsts.specs.Firsts.{smallestOf}
 use Rattle.classes.specs.declared.Entered.the-variants.{Done, Refused as NotEntered}
 use Rattle.classes.specs.Calls.{enterGives, pickGives}
-use Rattle.waiting.specs.Answers.{enteredNumber, pickedNumber}
+use Rattle.waiting.specs.Answers.{enteredNumber, pickedNumber, pickedValues}
 use Rattle.waiting.specs.Rules.{Picks}
 use Rattle.waiting.specs.Promises.{Reached}
 
@@ -65,6 +65,7 @@ pub record WaitingExamples : Type 0 where
   -- PickedIsFirst: of handles 7 and 8 with equal times, 7 goes first; its class is above that of handle 9, whose time is smaller
   pub three-wait : Shaped withNine
   pub seven-first : pickGives withNine 500 .answer ≡ Leaves 6 (entry 7 500)
+  pub seven-values : pickedValues (pickGives withNine 500 .answer) ≡ 6 ∷ 7 ∷ 500 ∷ 672 ∷ []
   pub then-eight : pickGives sevenPicked 500 .answer ≡ Leaves 6 (entry 8 500)
   -- and at 400, where class 6 has nothing eligible, handle 9 of class 2
   pub nine-before : pickGives withNine 400 .answer ≡ Leaves 2 (entry 9 300)

@@ -4,10 +4,11 @@ use Prim.Native.Nat.{ℕ, _≤_}
 use mathlib.Core.Path.{_≡_}
 use mathlib.Core.List.{List, [], _∷_, _++_}
 use lib.ListN.{length, drop}
+use Rattle.quantity.specs.Kinds.{ticks}
 use Rattle.quantity.specs.declared.Refusal.the-variants.{SetUpBefore}
 use Rattle.tablefile.specs.BigEndian.{AreBytes}
 use Rattle.reader.specs.Figures.{group-line, stream-line, exampleFile}
-use Rattle.bridge.specs.Tables.{freshBridge}
+use Rattle.bridge.specs.Tables.{freshBridge, groupAt}
 use Rattle.bridge.specs.History.{group, bridgeAfter}
 use Rattle.bridge.specs.declared.Bridge.{Bridge}
 use Rattle.yard.specs.declared.End.the-variants.{NotSetUp}
@@ -31,7 +32,13 @@ setUps = group-line ++ stream-line
 abbrev pub groupTwice : List ℕ
 groupTwice = group-line ++ group-line
 
+-- a group without a residence
+abbrev pub defaultGroup : List ℕ
+defaultGroup = 0x47 ∷ 0x44 ∷ 0x00 ∷ 0x06 ∷ []
+
 pub record YardExamples : Type 0 where
+  -- a GD is gathered with its default residence
+  pub default-residence : groupAt (gatherFrom defaultGroup (beginning freshBridge) .gathered .bridge) 0 .residence ≡ ticks 10_000_000
   -- FromAnyPlace: the example from place 12 on, with the group set up: four records are taken
   pub place-in-file : 12 ≤ length exampleFile
   pub at-front : beginning oneGroup .at ≤ length (drop 12 exampleFile)

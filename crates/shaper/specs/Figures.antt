@@ -83,13 +83,13 @@ given =
 
 -- ---- what the document expects
 
-abbrev minus : ℕ → ℤ
+abbrev pub minus : ℕ → ℤ
 minus n = negℤ (pos n)
 
-abbrev E : ℤ → ℕ → List Moment
+abbrev pub E : ℤ → ℕ → List Moment
 E t p = record { ticks = t; part = p } ∷ []
 
-abbrev row : List ℕ → List Moment → Row
+abbrev pub row : List ℕ → List Moment → Row
 row a e = record { answer = a; empty = e }
 
 unfoldable pub expected : List Row
