@@ -14,8 +14,7 @@ use Rattle.calls.specs.Calls.{groupPlaced, streamPlaced}
 use Rattle.bridge.specs.Tables.{groupAt, streamAt}
 use Rattle.bridge.specs.History.{stream, bridgeAfter}
 use Rattle.bridge.specs.declared.Bridge.{Bridge}
-use Rattle.lent.specs.InPlace.{runPlaces, received}
-use Rattle.lent.specs.declared.Received.{Received}
+use Rattle.lent.specs.InPlace.{runPlaces, received, Received}
 use Rattle.firmware.specs.Firmware.{groupOf, groupRecord, streamOf, streamRecords, groupTold, streamTold, FrameReceived, frameReceived}
 use Rattle.firmware.specs.declared.GroupRecord.{GroupRecord}
 use Rattle.firmware.specs.declared.StreamRecord.{StreamRecord}

@@ -19,10 +19,9 @@ use Rattle.setup.specs.declared.StreamSetUp.the-variants as stream
 use Rattle.calls.specs.Calls.{groupTaken, groupPlaced, streamTaken, streamPlaced}
 use Rattle.calls.specs.Numbers.{setUpNumber}
 use Rattle.calls.specs.declared.SetUp.{SetUp}
-use Rattle.lent.specs.InPlace.{received}
+use Rattle.lent.specs.InPlace.{received, Received}
 use Rattle.firmware.specs.Firmware.{groupOf, groupRecord, streamOf, streamRecords, timeAfter, groupTold, streamTold, lentAfter, frameReceived}
 use Rattle.firmware.specs.Promises.{RefusedStaysForC, RefusedGroupStays, RefusedStreamStays}
-use Rattle.lent.specs.declared.Received.{Received}
 use Rattle.firmware.specs.declared.GroupRecord.{GroupRecord}
 use Rattle.firmware.specs.declared.StreamRecord.{StreamRecord}
 use Rattle.lent.proofs.InPlaceLaws.{Ended, ended}

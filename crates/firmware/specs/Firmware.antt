@@ -16,8 +16,7 @@ use Rattle.records.specs.declared.Answer.the-variants.{Released, Discarded, Ref
 use Rattle.calls.specs.Numbers.{setUpNumber}
 use Rattle.calls.specs.declared.PlacedGroup.{PlacedGroup}
 use Rattle.calls.specs.declared.PlacedStream.{PlacedStream}
-use Rattle.lent.specs.InPlace.{received}
-use Rattle.lent.specs.declared.Received.{Received}
+use Rattle.lent.specs.InPlace.{received, Received}
 use Rattle.firmware.specs.declared.GroupRecord.{GroupRecord}
 use Rattle.firmware.specs.declared.StreamRecord.{StreamRecord}
 use Rattle.firmware.specs.declared.GroupTold.{GroupTold}

@@ -23,12 +23,11 @@ use Rattle.records.specs.declared.Stream.{Stream}
 use Rattle.shaper.specs.declared.Judged.{Judged}
 use Rattle.shaper.proofs.Judging.{Verdict, verdict, too-late, in-time}
 use Rattle.bridge.specs.Tables.{noStream}
-use Rattle.lent.specs.InPlace.{runPlaces, judgedIn, stays, stored, received}
+use Rattle.lent.specs.InPlace.{runPlaces, judgedIn, stays, stored, received, Received}
 use Rattle.lent.specs.Steps.{ready, unreadiness}
 use lib.Seq.{set-getD}
 use Rattle.quantity.specs.Numbers.{numberOf}
 use Rattle.records.specs.declared.Answer.the-variants.{Refused}
-use Rattle.lent.specs.declared.Received.{Received}
 
 -- ---- whether the run has its length and the stream a place in it
 module _ (places k : ℕ) where

@@ -5,6 +5,7 @@ use mathlib.Core.Bool.{not, cond}
 use mathlib.Core.List.{List}
 use lib.Dec.{eqb}
 use lib.ListN.{length, getD, set}
+use Rattle.records.specs.declared.Answer.{Answer}
 use Rattle.quantity.specs.Ranges.{inRange}
 use Rattle.quantity.specs.declared.Item.the-variants.{StreamId}
 use Rattle.quantity.specs.declared.Refusal.{Refusal}
@@ -16,7 +17,6 @@ use Rattle.records.specs.declared.Stream.{Stream}
 use Rattle.shaper.specs.declared.Judged.{Judged}
 use Rattle.records.specs.declared.Answer.the-variants.{Refused}
 use Rattle.bridge.specs.Tables.{noStream}
-use Rattle.lent.specs.declared.Received.{Received}
 
 -- the stream table is lent as a run of 64 stream records
 abbrev pub runPlaces : ℕ
@@ -29,6 +29,12 @@ judgedIn i s g n A =
     cond (not (isSetUp (s .regulator))) (refused s g NoStream)
     (cond (not (eqb (s .group) i)) (refused s g Unsound)
     (judged s g n A))
+
+-- the answer, and the lent records after it
+pub record Received : Type 0 where
+  pub answer : Answer
+  pub group : Group
+  pub streams : List Stream
 
 -- refused: the lent records stay
 abbrev pub stays : Group → List Stream → Refusal → Received

@@ -12,13 +12,6 @@ ghost use mathlib.Core.Path.{_≡_};
 ghost use Rattle.lent.specs.InPlace.{judgedIn};
 ghost use Rattle.lent.specs.Steps.{ready, unreadiness};
 
-// The answer to a frame, and the lent group's record and the lent run after it.
-pub struct Received {
-    pub answer: Answer,
-    pub group: Group,
-    pub streams: [Stream; 64],
-}
-
 // A lent run has a place for each stream id.
 const RUN_PLACES: usize = 64;
 

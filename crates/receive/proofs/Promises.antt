@@ -25,10 +25,9 @@ use Rattle.bridge.specs.declared.Bridge.{Bridge}
 use Rattle.bridge.specs.declared.Framed.{Framed}
 use Rattle.bridge.proofs.Tables.{same-group as same-groups, same-stream as same-table}
 use Rattle.calls.proofs.Returns.{frame-id-out, frame-id-in}
-use Rattle.lent.specs.InPlace.{runPlaces, judgedIn, stays, stored, received}
+use Rattle.lent.specs.InPlace.{runPlaces, judgedIn, stays, stored, received, Received}
 use Rattle.lent.specs.Steps.{ready}
 use Rattle.receive.specs.Promises.{putBack, SameAsFrameCall, OthersStay, RunKeepsItsLength, RefusedStays}
-use Rattle.lent.specs.declared.Received.{Received}
 use Rattle.lent.proofs.InPlaceLaws.{put-back, Ended, ended, then-stream, is-stored, is-unready, unset, at-home}
 
 pub refused-stays : RefusedStays

@@ -13,8 +13,7 @@ use Rattle.bridge.specs.Tables.{noStream, groupAt, streamAt}
 use Rattle.bridge.specs.Calls.{frameCalled}
 use Rattle.bridge.specs.declared.Bridge.{Bridge}
 use Rattle.bridge.specs.declared.Framed.{Framed}
-use Rattle.lent.specs.InPlace.{runPlaces, received}
-use Rattle.lent.specs.declared.Received.{Received}
+use Rattle.lent.specs.InPlace.{runPlaces, received, Received}
 
 -- the tables where the lent records are put back: the run is the table of streams, the group's record that of group i
 unfoldable pub putBack : Bridge → ℕ → Received → Framed

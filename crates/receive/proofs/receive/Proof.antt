@@ -64,9 +64,8 @@ use Rattle.shaper.proofs.Judged.Laws as J′
 use Rattle.records.proofs.Answer as N
 use Rattle.records.proofs.Answer.Laws as N′
 use Rattle.bridge.specs.Tables.{noStream}
-use Rattle.lent.specs.InPlace.{judgedIn, received}
+use Rattle.lent.specs.InPlace.{judgedIn, received, Received}
 use Rattle.lent.specs.Steps.{ready, unreadiness}
-use Rattle.lent.specs.declared.Received.{Received}
 use Rattle.lent.proofs.InPlaceLaws.{has-place, restamped, group-kept, is-stored, is-unready}
 use Rattle.lent.proofs.Freeing.{free-all}
 use Rattle.lent.proofs.Walking.{true-of, false-of, byte-fits, place-fits}
