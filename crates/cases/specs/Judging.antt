@@ -21,13 +21,13 @@ use Rattle.tablefile.specs.declared.Record.the-variants.{GroupDefault}
 use Rattle.report.specs.Records.{callOf}
 
 -- an answer's number and its values
-unfoldable pub numbers : List Reply → List (List ℕ)
-numbers [] = []
-numbers (r ∷ rs) = (r .number ∷ r .values) ∷ numbers rs
+unfoldable pub numbered : List Reply → List (List ℕ)
+numbered [] = []
+numbered (r ∷ rs) = (r .number ∷ r .values) ∷ numbered rs
 
 -- what calls answer one after the other, from a fresh start
 unfoldable pub answersTo : List Call → List (List ℕ)
-answersTo xs = numbers (replies freshBridge xs)
+answersTo xs = numbered (replies freshBridge xs)
 
 -- the residence of a GD is 10,000,000: a frame of 16,160 bits lasts so long at this rate. The third would wait one tick longer and is discarded, the fourth waits just so long
 unfoldable pub byDefault : List Call
@@ -59,5 +59,5 @@ expected =
     ∷ []
 
 pub judging : given ≡ expected
-unfolding given expected answersTo numbers byDefault lastArrival wholeTicks callOf replies reply afterCall groupCalled groupStored groupPlaced groupTaken streamCalled streamStored streamPlaced streamTaken frameCalled frameStored judgedAt groupAt streamAt withGroup withStream freshBridge setUpNumber groupSetUp streamSetUp freshStream freshGroup judged afterTests tested answerNumber answerValues aboveBurst sound soundGroup soundRegulator inRange processFrame settled discarded released eligibilityTime earliest afterRelease E-first S F E-after exactly momentOf roundedUp chargedBits
+unfolding given expected answersTo numbered byDefault lastArrival wholeTicks callOf replies reply afterCall groupCalled groupStored groupPlaced groupTaken streamCalled streamStored streamPlaced streamTaken frameCalled frameStored judgedAt groupAt streamAt withGroup withStream freshBridge setUpNumber groupSetUp streamSetUp freshStream freshGroup judged afterTests tested answerNumber answerValues aboveBurst sound soundGroup soundRegulator inRange processFrame settled discarded released eligibilityTime earliest afterRelease E-first S F E-after exactly momentOf roundedUp chargedBits
 judging = refl

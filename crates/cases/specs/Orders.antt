@@ -23,7 +23,7 @@ use Rattle.bridge.specs.Calls.{groupStored, groupCalled, streamStored, streamCa
 use Rattle.bridge.specs.History.{Call, group, stream, frame, reply, afterCall, after}
 use Rattle.bridge.specs.declared.Bridge.{Bridge}
 use Rattle.places.specs.Queue.{countOf, entryAt}
-use Rattle.places.specs.Places.{hasRoom, withLast, moved, closed, without, takeGives}
+use Rattle.places.specs.Places.{hasRoom, withLast, takeGives}
 use Rattle.places.specs.declared.Waiting.{Waiting}
 use Rattle.places.specs.declared.Entry.{Entry}
 use Rattle.firsts.specs.Firsts.{part, firstFrom, firstIn, firstOf, smaller, smallestBelow, smallestOf}
@@ -59,8 +59,9 @@ unsoundGroup = record { used = true; class = 8; residence = ticks 224_000; time 
 abbrev pub harmed : Bridge
 harmed = withGroup yard 0 unsoundGroup
 
-abbrev pub tooLate : ℕ
-tooLate = 4_000_000_000_000_000_001
+-- one tick after the last that an arrival may have, and a pick of a run
+abbrev pub pastArrivals : ℕ
+pastArrivals = 4_000_000_000_000_000_001
 
 abbrev pub numberOn : Bridge → Call → ℕ
 numberOn b x = reply b x .number
@@ -68,12 +69,12 @@ numberOn b x = reply b x .number
 -- 10 twice, above 63 and not set up; 9, 11, 12, 13, 14; and at the last arrival itself
 unfoldable pub ofFrames : List ℕ
 ofFrames =
-    numberOn harmed (frame 64 2_001 tooLate)
-    ∷ numberOn harmed (frame 1 2_001 tooLate)
-    ∷ numberOn harmed (frame 0 2_001 tooLate)
-    ∷ numberOn later (frame 0 2_001 tooLate)
-    ∷ numberOn later (frame 0 149 tooLate)
-    ∷ numberOn later (frame 0 64 tooLate)
+    numberOn harmed (frame 64 2_001 pastArrivals)
+    ∷ numberOn harmed (frame 1 2_001 pastArrivals)
+    ∷ numberOn harmed (frame 0 2_001 pastArrivals)
+    ∷ numberOn later (frame 0 2_001 pastArrivals)
+    ∷ numberOn later (frame 0 149 pastArrivals)
+    ∷ numberOn later (frame 0 64 pastArrivals)
     ∷ numberOn later (frame 0 64 999)
     ∷ numberOn later (frame 0 64 1_000)
     ∷ []
@@ -114,17 +115,18 @@ alone = record { times = replicate 256 5; handles = replicate 256 7; bits = repl
 abbrev pub entryWith : ℕ → ℕ → Entry
 entryWith time n = record { handle = 7; time = ticks time; bits = bits n }
 
-abbrev pub afterEvery : ℕ
-afterEvery = 5_000_000_000_000_000_001
+-- one tick after the last that an entry may have, and line-free
+abbrev pub pastEntries : ℕ
+pastEntries = 5_000_000_000_000_000_001
 
 -- 21, 9, 11 on either side, 13, 22; and two that are taken
 unfoldable pub ofEntries : List ℕ
 ofEntries =
-    enteredNumber (enterGives crowded 8 (entryWith afterEvery 167) .answer)
-    ∷ enteredNumber (enterGives crowded 3 (entryWith afterEvery 167) .answer)
-    ∷ enteredNumber (enterGives crowded 0 (entryWith afterEvery 167) .answer)
-    ∷ enteredNumber (enterGives crowded 0 (entryWith afterEvery 16_161) .answer)
-    ∷ enteredNumber (enterGives crowded 0 (entryWith afterEvery 168) .answer)
+    enteredNumber (enterGives crowded 8 (entryWith pastEntries 167) .answer)
+    ∷ enteredNumber (enterGives crowded 3 (entryWith pastEntries 167) .answer)
+    ∷ enteredNumber (enterGives crowded 0 (entryWith pastEntries 167) .answer)
+    ∷ enteredNumber (enterGives crowded 0 (entryWith pastEntries 16_161) .answer)
+    ∷ enteredNumber (enterGives crowded 0 (entryWith pastEntries 168) .answer)
     ∷ enteredNumber (enterGives crowded 0 (entryWith 5_000_000_000_000_000_000 168) .answer)
     ∷ enteredNumber (enterGives crowded 5 (entryWith 5_000_000_000_000_000_000 168) .answer)
     ∷ enteredNumber (enterGives crowded 5 (entryWith 0 16_160) .answer)
@@ -138,12 +140,12 @@ ofPicks =
     ∷ pickedNumber (pickGives alone 5 .answer)
     ∷ []
 
--- an entry of 167 bits, and one with a time after every other's, make their class unsound; beyond the fill nothing is looked at
+-- an entry of 167 bits, and one with a time above 5·10¹⁸, make their class unsound; beyond the fill nothing is looked at
 unfoldable pub ofClasses : List Bool
 ofClasses =
     classSound (alone .times) (set (alone .bits) 0 167) (alone .fills) 0
-    ∷ classSound (set (alone .times) 0 afterEvery) (alone .bits) (alone .fills) 0
-    ∷ classSound (set (alone .times) 1 afterEvery) (set (alone .bits) 1 167) (alone .fills) 0
+    ∷ classSound (set (alone .times) 0 pastEntries) (alone .bits) (alone .fills) 0
+    ∷ classSound (set (alone .times) 1 pastEntries) (set (alone .bits) 1 167) (alone .fills) 0
     ∷ []
 
 -- ---- runs
@@ -158,11 +160,11 @@ runNumber octets rate w start free = stopNumber (runGives (inputOf octets rate) 
 -- 28 for the lists and for the start; 29 for the rate on either side and for line-free; 9; and the budget of no event is spent
 unfoldable pub ofRuns : List ℕ
 ofRuns =
-    runNumber [] 0 crowded 0 afterEvery
-    ∷ runNumber (64 ∷ []) 0 crowded 2 afterEvery
+    runNumber [] 0 crowded 0 pastEntries
+    ∷ runNumber (64 ∷ []) 0 crowded 2 pastEntries
     ∷ runNumber (64 ∷ []) 9_999_999 crowded 1 0
     ∷ runNumber (64 ∷ []) 10_000_000_001 crowded 1 0
-    ∷ runNumber (64 ∷ []) 10_000_000_000 crowded 1 afterEvery
+    ∷ runNumber (64 ∷ []) 10_000_000_000 crowded 1 pastEntries
     ∷ runNumber (64 ∷ []) 10_000_000_000 crowded 1 5_000_000_000_000_000_000
     ∷ runNumber (64 ∷ []) 10_000_000_000 alone 1 5_000_000_000_000_000_000
     ∷ []
@@ -191,8 +193,8 @@ stopOf (Pick m) = []
 unfoldable pub ofStops : List (List ℕ)
 ofStops =
     stopOf (stepFor 0 0 0 0 none)
-    ∷ stopOf (stepFor 0 0 0 0 (pick tooLate))
-    ∷ stopOf (stepFor 1 0 0 0 (pick tooLate))
+    ∷ stopOf (stepFor 0 0 0 0 (pick pastArrivals))
+    ∷ stopOf (stepFor 1 0 0 0 (pick pastArrivals))
     ∷ stopOf (stepFor 1 1 1 2 (pick 4_000_000_000_000_000_000))
     ∷ stopOf (stepFor 1 1 2 1 (pick 4_000_000_000_000_000_000))
     ∷ stopOf (stepFor 1 1 2 2 (pick 4_000_000_000_000_000_000))
@@ -248,11 +250,11 @@ unfolding ofFrames ofGroups ofStreams ofLent received judgedIn reply afterCall a
 on-tables = refl
 
 pub entries : ofEntries ≡ 21 ∷ 9 ∷ 11 ∷ 11 ∷ 13 ∷ 22 ∷ 0 ∷ 0 ∷ []
-unfolding ofEntries countOf entryAt hasRoom withLast moved closed without takeGives part firstFrom firstIn firstOf every entrySound soundAt classSound allSound notEntered enterGives dueOr dueBelow dueOf takeDue pickGives inRange
+unfolding ofEntries enterGives notEntered withLast hasRoom classSound every soundAt entrySound inRange
 entries = refl
 
 pub picks : ofPicks ≡ 9 ∷ 2 ∷ 0 ∷ []
-unfolding ofPicks countOf entryAt hasRoom withLast moved closed without takeGives part firstFrom firstIn firstOf every entrySound soundAt classSound allSound notEntered enterGives dueOr dueBelow dueOf takeDue pickGives inRange
+unfolding ofPicks pickGives takeDue takeGives dueOf dueBelow dueOr firstOf firstIn firstFrom part countOf entryAt allSound classSound every soundAt entrySound inRange
 picks = refl
 
 pub runs : ofRuns ≡ 28 ∷ 28 ∷ 29 ∷ 29 ∷ 29 ∷ 9 ∷ 3 ∷ []

@@ -7,6 +7,7 @@ use Rattle.quantity.specs.declared.Refusal.the-variants.{Unsound, NoStre
 abbrev pub leastRefusal : ℕ
 leastRefusal = 9
 
+-- the number of each
 abbrev pub numberOf : Refusal → ℕ
 numberOf Unsound = 9
 numberOf NoStream = 10
