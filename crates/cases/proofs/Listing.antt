@@ -22,12 +22,12 @@ use Rattle.tablefile.specs.Layout.{kinds, fieldNumbers, total, size}
 use Rattle.tablefile.specs.declared.Reading.the-variants.{NothingLeft}
 use Rattle.reader.specs.Reader.{readAt, readLeft, readMarked, markedAmong, isMark, readFields}
 use Rattle.text.specs.Decimal.{digit, lastDigits, fewest, digitCount, decimal}
-use Rattle.lines.specs.Lines.{lineOf, column, endLine, ending}
-use Rattle.lines.specs.Places.{putWhere, mayEnd, endPut}
-use Rattle.report.specs.Records.{callOf, recordLine}
-use Rattle.report.specs.Parts.{onto, mayGoOn, goingOn, stopsAt, partFor, partOf}
-use Rattle.report.proofs.Promises.{listing-in-parts, listing-to-its-end}
-use Rattle.lines.proofs.Promises.{end-within}
+use Rattle.listing_text.specs.Lines.{lineOf, column, endLine, ending}
+use Rattle.listing_text.specs.Places.{putWhere, mayEnd, endPut}
+use Rattle.listing_part.specs.Records.{callOf, recordLine}
+use Rattle.listing_part.specs.Parts.{onto, mayGoOn, goingOn, stopsAt, partFor, partOf}
+use Rattle.listing_part.proofs.Promises.{listing-in-parts, listing-to-its-end}
+use Rattle.listing_text.proofs.Promises.{end-within}
 use Rattle.cases.specs.TableFile.{lent}
 use Rattle.cases.specs.Listing.{cutFile, ListingExamples}
 use Rattle.cases.proofs.Bytes.{are-bytes}

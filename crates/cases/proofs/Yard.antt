@@ -17,11 +17,11 @@ use Rattle.bridge.specs.Tables.{groupAt, streamAt, withGroup, withStream, fresh
 use Rattle.tablefile.specs.BigEndian.{number}
 use Rattle.tablefile.specs.Layout.{kinds, fieldNumbers, total, size}
 use Rattle.reader.specs.Reader.{readAt, readLeft, readMarked, markedAmong, isMark, readFields}
-use Rattle.yard.specs.declared.End.{End}
-use Rattle.yard.specs.declared.End.the-variants.{NotSetUp}
-use Rattle.yard.specs.Gathering.{ended, hasRoom, taskOf, taskFor, roomIn, taskAt, called, setUpTaken, afterSetUp, setUp, frameTaken, onward, gatherFor, gatherFrom, begun}
-use Rattle.yard.specs.Promises.{WantsMore, nothing-left, cut-short, next}
-use Rattle.yard.proofs.Promises.{from-any-place, parts-are-one, ends-for-good}
+use Rattle.replay_gathering.specs.declared.End.{End}
+use Rattle.replay_gathering.specs.declared.End.the-variants.{NotSetUp}
+use Rattle.replay_gathering.specs.Gathering.{ended, hasRoom, taskOf, taskFor, roomIn, taskAt, called, setUpTaken, afterSetUp, setUp, frameTaken, onward, gatherFor, gatherFrom, begun}
+use Rattle.replay_gathering.specs.Promises.{WantsMore, nothing-left, cut-short, next}
+use Rattle.replay_gathering.proofs.Promises.{from-any-place, parts-are-one, ends-for-good}
 use Rattle.cases.specs.Listing.{cutFile}
 use Rattle.cases.specs.Yard.{beginning, oneGroup, setUps, groupTwice, YardExamples}
 use Rattle.cases.proofs.Bytes.{are-bytes}

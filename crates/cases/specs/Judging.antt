@@ -18,7 +18,7 @@ use Rattle.bridge.specs.Tables.{freshBridge, groupAt, streamAt, withGroup, with
 use Rattle.bridge.specs.Calls.{groupStored, groupCalled, streamStored, streamCalled, frameStored, frameCalled}
 use Rattle.bridge.specs.History.{Call, group, stream, frame, Reply, reply, afterCall, replies}
 use Rattle.tablefile.specs.declared.Record.the-variants.{GroupDefault}
-use Rattle.report.specs.Records.{callOf}
+use Rattle.listing_part.specs.Records.{callOf}
 
 -- an answer's number and its values
 unfoldable pub numbered : List Reply → List (List ℕ)

@@ -1,4 +1,4 @@
--- Files at which the premises of the promises of `report` and `lines` hold: document 01's example, whole and cut in the middle of its third record.
+-- Files at which the premises of the promises of `listing_part` and `listing_text` hold: document 01's example, whole and cut in the middle of its third record.
 -- Each field of the record is a premise at these values, or what comes of it. Places, counts and rooms are plain numbers.
 use Prim.Native.Nat.{ℕ, _≤_}
 use mathlib.Core.Path.{_≡_}
@@ -9,9 +9,9 @@ use Rattle.tablefile.specs.BigEndian.{AreBytes}
 use Rattle.tablefile.specs.Answers.{nothingLeft, readingNumber}
 use Rattle.tablefile.specs.declared.Reading.the-variants.{NothingLeft}
 use Rattle.bridge.specs.Tables.{freshBridge}
-use Rattle.lines.specs.Places.{endPut}
-use Rattle.report.specs.Parts.{Part, partOf}
-use Rattle.report.specs.Figures.{line-1, line-2, line-3, line-4, line-5}
+use Rattle.listing_text.specs.Places.{endPut}
+use Rattle.listing_part.specs.Parts.{Part, partOf}
+use Rattle.listing_part.specs.Figures.{line-1, line-2, line-3, line-4, line-5}
 use Rattle.cases.specs.TableFile.{lent}
 
 -- the group, the stream, and 5 of the 13 bytes of the first frame

@@ -1,4 +1,4 @@
--- Files at which the premises of the promises of `yard` hold: document 01's example, from its second record on, in two parts, and one with a group that is set up twice.
+-- Files at which the premises of the promises of `replay_gathering` hold: document 01's example, from its second record on, in two parts, and one with a group that is set up twice.
 -- Each field of the record is a premise at these values, or what comes of it. Places and counts are plain numbers.
 use Prim.Native.Nat.{ℕ, _≤_}
 use mathlib.Core.Path.{_≡_}
@@ -11,9 +11,9 @@ use Rattle.reader.specs.Figures.{group-line, stream-line, exampleFile}
 use Rattle.bridge.specs.Tables.{freshBridge, groupAt}
 use Rattle.bridge.specs.History.{group, bridgeAfter}
 use Rattle.bridge.specs.declared.Bridge.{Bridge}
-use Rattle.yard.specs.declared.End.the-variants.{NotSetUp}
-use Rattle.yard.specs.Gathering.{State, gatherFrom, begun}
-use Rattle.yard.specs.Promises.{WantsMore, next}
+use Rattle.replay_gathering.specs.declared.End.the-variants.{NotSetUp}
+use Rattle.replay_gathering.specs.Gathering.{State, gatherFrom, begun}
+use Rattle.replay_gathering.specs.Promises.{WantsMore, next}
 use Rattle.cases.specs.TableFile.{lent}
 use Rattle.cases.specs.Listing.{cutFile}
 

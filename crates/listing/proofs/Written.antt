@@ -1,4 +1,4 @@
--- Laws of what the calls of `report` and `lines` leave in the program's buffers: it is within them. Assumes nothing.
+-- Laws of what the calls of `listing_part` and `listing_text` leave in the program's buffers: it is within them. Assumes nothing.
 use mathlib.Core.Path.{_≡_, sym, ap, _∙_}
 use mathlib.Core.List.{List}
 use Prim.Native.Nat.{ℕ, _≤_}
@@ -8,11 +8,11 @@ use lib.Seq.{length-sets, length-take-le}
 use Rattle.text.specs.Places.{Placed}
 use Rattle.tablefile.specs.declared.Reading.{Reading}
 use Rattle.bridge.specs.declared.Bridge.{Bridge}
-use Rattle.lines.specs.Places.{endPut}
-use Rattle.lines.proofs.Promises.{end-within}
-use Rattle.report.specs.Parts.{partOf, ListedPart, listedOf, partPut, partListed}
-use Rattle.report.specs.declared.Listed.{Listed}
-use Rattle.report.proofs.Promises.{part-within}
+use Rattle.listing_text.specs.Places.{endPut}
+use Rattle.listing_text.proofs.Promises.{end-within}
+use Rattle.listing_part.specs.Parts.{partOf, ListedPart, listedOf, partPut, partListed}
+use Rattle.listing_part.specs.declared.Listed.{Listed}
+use Rattle.listing_part.proofs.Promises.{part-within}
 
 -- what ends the listing
 pub end-fits : (l o : List ℕ) (n next : ℕ) (x : Reading) → record { next = next; bytes = o } ≡ endPut l 0 n x → next ≤ length o

@@ -1,5 +1,5 @@
 // The listing of a table file: reads it from standard input, and writes a line for each record and an end line.
-// What a record does is `report`'s and what its line says `lines`'s; here are the buffers, the reading and the writing.
+// What a record does is `listing_part`'s and what its line says `listing_text`'s; here are the buffers, the reading and the writing.
 use bridge::Bridge;
 use libc::STDIN_FILENO;
 use libc::STDOUT_FILENO;
@@ -37,7 +37,7 @@ fn move_to_front(buf: &mut [u8], place: usize, filled: usize) -> usize
 
 // Writes what ends the listing.
 fn write_end(output: &mut [u8], count: u64, reading: Reading) {
-    let n = lines::put_end(output, 0, count, reading);
+    let n = listing_text::put_end(output, 0, count, reading);
     io::write_all(STDOUT_FILENO, &output[..n]);
 }
 
@@ -113,7 +113,7 @@ fn go_on(
             place,
             filled,
             // Then a line more cannot be counted.
-            is_over: count == lines::MOST_LINES,
+            is_over: count == listing_text::MOST_LINES,
         },
         Reading::NothingLeft => refill(input, output, bridge, count, place, filled, reading),
         Reading::Refused(why) => {
@@ -140,7 +140,7 @@ fn turn(input: &mut [u8], output: &mut [u8], progress: Progress) -> Progress
     let place = progress.place;
     let filled = progress.filled;
     let before = progress.bridge;
-    let listed = report::list_part(&input[place..filled], before, progress.count, output);
+    let listed = listing_part::list_part(&input[place..filled], before, progress.count, output);
     let written = listed.written;
     let bridge = listed.bridge;
     let count = listed.count;

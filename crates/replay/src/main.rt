@@ -1,8 +1,7 @@
 // Replays a table file against a line: reads the file from standard input, sets up its groups and streams, runs its
 // frames against a line of the rate that the first argument gives, free from the moment that the second gives (0 where
-// there is none), and prints each frame's answer, each pick and how the run stopped. Thin: the work is in `yard`,
-// `line` and `account`.
-use account::Line;
+// there is none), and prints each frame's answer, each pick and how the run stopped. Thin: the work is in `replay_gathering`,
+// `line` and `replay_text`.
 use bridge::Bridge;
 use event::Stop;
 use libc::STDERR_FILENO;
@@ -12,9 +11,10 @@ use line::Ran;
 use quantity::Rate;
 use quantity::Refusal;
 use quantity::Ticks;
+use replay_gathering::End;
+use replay_gathering::Gathered;
+use replay_text::Line;
 use text::Numeral;
-use yard::End;
-use yard::Gathered;
 ghost use Prim.Native.Nat.{_<_, _≤_};
 ghost use lib.ListN.{length};
 ghost use Rattle.io.specs.Counts.{Counts};
@@ -246,7 +246,14 @@ fn read_table(buf: &mut [u8], arrivals: &mut [u64], ids: &mut [u8], octets: &mut
         let before = part.bridge;
         let from = held.from;
         let have = held.have;
-        part = yard::gather_part(&buf[from..have], before, arrivals, ids, octets, part.count);
+        part = replay_gathering::gather_part(
+            &buf[from..have],
+            before,
+            arrivals,
+            ids,
+            octets,
+            part.count,
+        );
         let why = part.why;
         records = std::num::wrapping_add_u64(records, part.records as u64);
         held = go_on(buf, why, records, from + part.at, have);
@@ -275,7 +282,7 @@ fn next_line(out: &[u8], at: usize) -> usize
     requires { ⌜ Counts at (now out) ⌝ }
     ensures { λ r. ⌜ r ≤ length (now (out .entry)) ⌝ }
 {
-    if out.len() - at < account::LINE_ROOM {
+    if out.len() - at < replay_text::LINE_ROOM {
         flush(out, at);
         return 0;
     }
@@ -287,7 +294,7 @@ fn print_line(out: &mut [u8], at: usize, line: Line) -> usize
     ensures { λ r. ⌜ Counts r (now (out .exit)) ⌝ }
 {
     let start = next_line(out, at);
-    account::put_line(out, start, line)
+    replay_text::put_line(out, start, line)
 }
 
 fn smaller(a: usize, b: usize) -> usize

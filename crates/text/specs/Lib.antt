@@ -1,3 +1,4 @@
 pub mod Decimal
 pub mod Places
 pub mod Numeral
+pub mod Puts

@@ -2,11 +2,13 @@
 // back; and a decimal number is read from lent bytes. The programs' lines are made of these. No file and no record
 // lives here.
 ghost use mathlib.Core.Path.{_≡_};
+ghost use mathlib.Core.List.{[], _∷_};
 ghost use Prim.Native.Nat.{_+_, _-_, _*_, _≤_, _<_, min};
 ghost use lib.ListN.{length};
 ghost use lib.Seq.{sets};
 ghost use Rattle.text.specs.Decimal.{lastDigits, digitCount, decimal};
 ghost use Rattle.text.specs.Places.{placed};
+ghost use Rattle.text.specs.Puts.{puts};
 ghost use Rattle.text.specs.Numeral.{most, isDigit, numeralOf};
 
 // The largest number of 64 bits.
@@ -83,6 +85,14 @@ pub fn put_text(out: &mut [u8], at: usize, text: &[u8]) -> usize
         i += 1;
     }
     at + i
+}
+
+// A word and a number after it.
+pub fn put_field(out: &mut [u8], at: usize, word: &[u8], n: u64) -> usize
+    ensures { λ r. ⌜ record { next = r; bytes = now (out .exit) } ≡ puts (now (out .entry)) at (now (word .entry) ∷ decimal n ∷ []) ⌝ }
+{
+    let after = put_text(out, at, word);
+    put_decimal(out, after, n)
 }
 
 fn is_digit(byte: u8) -> bool

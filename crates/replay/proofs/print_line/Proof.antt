@@ -1,6 +1,6 @@
 -- `replay::print_line` is safe, and stays in the buffer. Assumes nothing.
 use borrow.Author.Needs.{needs}
-use Rattle.account.proofs.Texts.{line-within}
+use Rattle.replay_text.proofs.Texts.{line-within}
 use Rattle.replay.proofs.Buffers.{counts}
 use Rattle.replay.proofs.print_line.Statement.{statement}
 use Rattle.replay.proofs.print_line.Tie as tie
