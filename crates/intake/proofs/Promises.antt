@@ -17,8 +17,8 @@ use Rattle.intake.specs.declared.Told.the-variants as told
 use Rattle.intake.specs.declared.Next.{Next}
 use Rattle.intake.specs.declared.Next.the-variants.{GoesOn, Reads, Ends, Fails}
 use Rattle.intake.specs.declared.Held.{Held}
-use Rattle.intake.specs.Sessions.{Input, more, ended, failed, bytesOf, readings, EndsWell, at-its-end, after-more, Stepping, Outcome, stopped, written, onward, session}
-use Rattle.intake.specs.Promises.{Given, following, Meaning, Right, AllOfIt, TheBeginning, Moves, ComesToItsEnd, ReadingWithin, KeptWithin, KeptSame, RoomToRead, HeldAfterUse, HeldAfterReading}
+use Rattle.intake.specs.Sessions.{Input, more, ended, failed, bytesOf, readings, EndsWell, at-its-end, after-more, Stepping, Outcome, stopped, written, onward, session, Stood, at-first, after-a-turn, after-a-reading, after-the-end, after-a-failure, MayTurn, MayRead}
+use Rattle.intake.specs.Promises.{Given, following, Meaning, Right, AllOfIt, TheBeginning, Moves, ComesToItsEnd, WrittenSoFar, ReadingStands, ReadingWithin, KeptWithin, KeptSame, RoomToRead, HeldAfterUse, HeldAfterReading}
 use Rattle.quantity.proofs.Booleans.{both, cond-true, cond-false}
 use Rattle.intake.specs.Holding.{Within, isWithin, saying, cameIn, Kept, broughtKept, asItWas, heldIn, keptFor}
 use Rattle.intake.proofs.Keeping.{length-part}
@@ -358,3 +358,89 @@ held-after-reading h k waits size l m w same =
     ∙ take-add n c (drop (h .place) m)
     ∙ ap (λ (x : List ℕ). x ++ take c (drop n (drop (h .place) m))) front
     ∙ ap (λ (x : List ℕ). take n (drop (h .place) l) ++ take c x) (drop-drop n (h .place) m ∙ ap (λ (i : ℕ). drop i m) at)
+
+-- ---- where a program stands
+
+module _ {S F : Type 0} (step : Stepping S) (finalOf : S → F) (whole : Meaning S F) (right : Right step finalOf whole) (start : S) where
+  -- it holds bytes
+  held-bytes : {n : ℕ} {read text : List ℕ} {s : S} {held : List ℕ} {said : Told} → Stood step start n read text s held said → AreBytes read → AreBytes held
+  held-bytes at-first h = h
+  held-bytes (after-a-turn {s = s} {held = held} {said = said} x e) h = bytes-drop (step s held said .used) held (held-bytes x h)
+  held-bytes (after-a-reading {read = read} {s = s} {held = held} {said = said} x e part) h =
+      bytes-join (drop (step s held said .used) held) part (bytes-drop (step s held said .used) held (held-bytes x (bytes-front read part h))) (bytes-back read part h)
+  held-bytes (after-the-end {s = s} {held = held} {said = said} x e) h = bytes-drop (step s held said .used) held (held-bytes x h)
+  held-bytes (after-a-failure {s = s} {held = held} {said = said} x e) h = bytes-drop (step s held said .used) held (held-bytes x h)
+
+  -- what was written before a turn that goes on, and what it writes
+  and-its-text : (text : List ℕ) (s : S) (held : List ℕ) (said : Told) (l after : List ℕ) → AreBytes held → (step s held said .next ≡ Ends → ⊥)
+      → whole start l ≡ following text (whole s (held ++ after))
+      → whole start l ≡ following (text ++ step s held said .text) (whole (step s held said .state) (drop (step s held said .used) held ++ after))
+  unfolding following
+  and-its-text text s held said l after h n e =
+      let T = step s held said in
+      let W = whole (T .state) (drop (T .used) held ++ after) in
+      e
+      ∙ ap (following text) (right .on s held said after h n)
+      ∙ ap (λ (x : List ℕ). record { text = x; final = W .final }) (sym (append-assoc text (T .text) (W .text)))
+
+  so-far : {n : ℕ} {read text : List ℕ} {s : S} {held : List ℕ} {said : Told} → Stood step start n read text s held said → AreBytes read → (after : List ℕ)
+      → whole start (read ++ after) ≡ following text (whole s (held ++ after))
+  unfolding following
+  so-far at-first h after = refl
+  so-far (after-a-turn {text = text} {s = s} {held = held} {said = said} x e) h after =
+      and-its-text text s held said _ after (held-bytes x h) (λ z. no-end refl (sym e ∙ z)) (so-far x h after)
+  so-far (after-a-reading {read = read} {text = text} {s = s} {held = held} {said = said} x e part) h after =
+      let K = drop (step s held said .used) held in
+      let b = bytes-front read part h in
+      ap (whole start) (append-assoc read part after)
+      ∙ and-its-text text s held said _ (part ++ after) (held-bytes x b) (λ z. no-end refl (sym e ∙ z)) (so-far x b (part ++ after))
+      ∙ ap (λ (l : List ℕ). following (text ++ step s held said .text) (whole (step s held said .state) l)) (sym (append-assoc K part after))
+  so-far (after-the-end {text = text} {s = s} {held = held} {said = said} x e) h after =
+      and-its-text text s held said _ after (held-bytes x h) (λ z. no-end refl (sym e ∙ z)) (so-far x h after)
+  so-far (after-a-failure {text = text} {s = s} {held = held} {said = said} x e) h after =
+      and-its-text text s held said _ after (held-bytes x h) (λ z. no-end refl (sym e ∙ z)) (so-far x h after)
+
+pub written-so-far : WrittenSoFar
+written-so-far S F step finalOf whole right start n read text s held said x h after = so-far step finalOf whole right start x h after
+
+-- the same bytes are held in two buffers that agree up to the place that is filled
+same-held : (h : Held) (t : Told) (l m : List ℕ) → h .place ≤ h .filled → take (h .filled) m ≡ take (h .filled) l → heldIn (saying h t) m ≡ heldIn h l
+unfolding heldIn saying
+same-held h t l m w same =
+    let n = h .filled - h .place in
+    let at : h .place + n ≡ h .filled = omega arith in
+    drop-part′ (h .place) n m ∙ ap (drop (h .place)) (ap (λ (i : ℕ). take i m) at ∙ same ∙ sym (ap (λ (i : ℕ). take i l) at)) ∙ sym (drop-part′ (h .place) n l)
+
+module _ {S : Type 0} (step : Stepping S) (start : S) (n : ℕ) where
+  -- what a reading said, and the bytes that are held after it
+  told-so : (t : Told) → (s : S) (kept : List ℕ) → MayRead step start n s kept → MayTurn step start (suc n) s kept t
+  told-so told.More s kept r =
+      subst (λ (x : S). MayTurn step start (suc n) x kept told.More) (sym (r .left))
+      (subst (λ (l : List ℕ). MayTurn step start (suc n) (step (r .state) (r .before) (r .said) .state) l told.More) (append-nil _ ∙ sym (r .kept))
+      (record { read = r .turned .read ++ []; text = _; stands = after-a-reading (r .turned .stands) (r .asks) [] }))
+  told-so told.Ended s kept r =
+      subst (λ (x : S). MayTurn step start (suc n) x kept told.Ended) (sym (r .left))
+      (subst (λ (l : List ℕ). MayTurn step start (suc n) (step (r .state) (r .before) (r .said) .state) l told.Ended) (sym (r .kept))
+      (record { read = r .turned .read; text = _; stands = after-the-end (r .turned .stands) (r .asks) }))
+  told-so told.Failed s kept r =
+      subst (λ (x : S). MayTurn step start (suc n) x kept told.Failed) (sym (r .left))
+      (subst (λ (l : List ℕ). MayTurn step start (suc n) (step (r .state) (r .before) (r .said) .state) l told.Failed) (sym (r .kept))
+      (record { read = r .turned .read; text = _; stands = after-a-failure (r .turned .stands) (r .asks) }))
+
+  brought-more : (part : List ℕ) (s : S) (kept : List ℕ) → MayRead step start n s kept → MayTurn step start (suc n) s (kept ++ part) told.More
+  brought-more part s kept r =
+      subst (λ (x : S). MayTurn step start (suc n) x (kept ++ part) told.More) (sym (r .left))
+      (subst (λ (l : List ℕ). MayTurn step start (suc n) (step (r .state) (r .before) (r .said) .state) (l ++ part) told.More) (sym (r .kept))
+      (record { read = r .turned .read ++ part; text = _; stands = after-a-reading (r .turned .stands) (r .asks) part }))
+
+  said-so : (t : Told) (s : S) (h : Held) (l m : List ℕ) → h .place ≤ h .filled → take (h .filled) m ≡ take (h .filled) l → MayRead step start n s (heldIn h l)
+      → MayTurn step start (suc n) s (heldIn (saying h t) m) (saying h t .told)
+  unfolding saying
+  said-so t s h l m w same r = subst (λ (x : List ℕ). MayTurn step start (suc n) s x t) (sym (same-held h t l m w same)) (told-so t s (heldIn h l) r)
+
+pub reading-stands : ReadingStands
+unfolding cameIn
+reading-stands S step start n s h l w r (pos zero) waits m same = said-so step start n _ s h l m (w .ahead) same r
+reading-stands S step start n s h l w r (pos (suc k)) waits m same =
+    subst (λ (x : List ℕ). MayTurn step start (suc n) s x told.More) (sym (held-after-reading h k waits (length l) l m w same)) (brought-more step start n _ s (heldIn h l) r)
+reading-stands S step start n s h l w r (negsuc k) waits m same = said-so step start n _ s h l m (w .ahead) same r

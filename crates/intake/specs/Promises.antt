@@ -13,7 +13,7 @@ use Rattle.intake.specs.declared.Next.{Next}
 use Rattle.intake.specs.declared.Next.the-variants.{GoesOn, Reads, Ends, Fails}
 use Rattle.intake.specs.declared.Held.{Held}
 use Rattle.intake.specs.Holding.{Within, isWithin, heldIn, cameIn, Kept, keptFor}
-use Rattle.intake.specs.Sessions.{Input, bytesOf, readings, EndsWell, Stepping, sessionOf}
+use Rattle.intake.specs.Sessions.{Input, bytesOf, readings, EndsWell, Stepping, sessionOf, Stood, MayTurn, MayRead}
 
 -- ---- what is written
 
@@ -55,6 +55,13 @@ TheBeginning =
     ≡ following (sessionOf step turns s input .text)
     (whole (sessionOf step turns s input .state) (sessionOf step turns s input .held ++ (bytesOf (sessionOf step turns s input .left) ++ after)))
 
+-- wherever a program stands in its session, what it has written and then what its state gives for the bytes that it holds and whatever follows, are what the whole gives
+abbrev pub WrittenSoFar : Type 1
+WrittenSoFar =
+    (S F : Type 0) (step : Stepping S) (finalOf : S → F) (whole : Meaning S F) → Right step finalOf whole
+    → (start : S) (n : ℕ) (read text : List ℕ) (s : S) (held : List ℕ) (said : Told) → Stood step start n read text s held said → AreBytes read → (after : List ℕ)
+    → whole start (read ++ after) ≡ following text (whole s (held ++ after))
+
 -- ---- that it ends
 
 -- a session moves on: Stands says how a state may stand with so many bytes still to be used, and work how much is to be done beside them.
@@ -76,6 +83,15 @@ ComesToItsEnd =
     → (turns : ℕ) (s : S) (input : Input) → AreBytes (bytesOf input) → EndsWell input → Stands s (length (bytesOf input))
     → work s + length (bytesOf input) + readings input + 1 < turns
     → sessionOf step turns s input .close ≡ Ends
+
+-- ---- a reading
+
+-- a reading behind the bytes that were kept, which left them as they were, lets the program make its next turn
+abbrev pub ReadingStands : Type 1
+ReadingStands =
+    (S : Type 0) (step : Stepping S) (start : S) (n : ℕ) (s : S) (h : Held) (l : List ℕ) → Within h (length l) → MayRead step start n s (heldIn h l)
+    → (got : ℤ) (waits : Bool) (m : List ℕ) → take (h .filled) m ≡ take (h .filled) l
+    → MayTurn step start (suc n) s (heldIn (cameIn h got waits (length l)) m) (cameIn h got waits (length l) .told)
 
 -- ---- the buffer
 

@@ -1,6 +1,7 @@
 -- A session: turns over the bytes that are held, and readings where a turn asks for them.
 -- S is what a program keeps from turn to turn; step its turn, by that state, the held bytes and what the last reading said.
 use Prim.Native.Nat.{ℕ, zero, suc, _+_}
+use mathlib.Core.Path.{_≡_}
 use mathlib.Core.List.{List, [], _++_}
 use lib.ListN.{drop}
 use Rattle.intake.specs.declared.Told.{Told}
@@ -76,3 +77,33 @@ session step (suc turns) s held said input =
 -- from the start: nothing is held, and there may be more
 abbrev pub sessionOf : {S : Type 0} → Stepping S → ℕ → S → Input → Outcome S
 sessionOf step turns s input = session step turns s [] told.More input
+
+-- ---- where a program stands in its session
+
+-- after so many turns, by the bytes read and the bytes written so far: at the start; after a turn that goes on; and after a turn that asks for more, and a reading that brought a part, or said that the input has ended, or that it failed
+pub data Stood {S : Type 0} (step : Stepping S) (start : S) : ℕ → List ℕ → List ℕ → S → List ℕ → Told → Type 0 where
+  at-first : Stood step start zero [] [] start [] told.More
+  after-a-turn : {n : ℕ} {read text : List ℕ} {s : S} {held : List ℕ} {said : Told} → Stood step start n read text s held said → step s held said .next ≡ GoesOn
+      → Stood step start (suc n) read (text ++ step s held said .text) (step s held said .state) (drop (step s held said .used) held) said
+  after-a-reading : {n : ℕ} {read text : List ℕ} {s : S} {held : List ℕ} {said : Told} → Stood step start n read text s held said → step s held said .next ≡ Reads → (part : List ℕ)
+      → Stood step start (suc n) (read ++ part) (text ++ step s held said .text) (step s held said .state) (drop (step s held said .used) held ++ part) told.More
+  after-the-end : {n : ℕ} {read text : List ℕ} {s : S} {held : List ℕ} {said : Told} → Stood step start n read text s held said → step s held said .next ≡ Reads
+      → Stood step start (suc n) read (text ++ step s held said .text) (step s held said .state) (drop (step s held said .used) held) told.Ended
+  after-a-failure : {n : ℕ} {read text : List ℕ} {s : S} {held : List ℕ} {said : Told} → Stood step start n read text s held said → step s held said .next ≡ Reads
+      → Stood step start (suc n) read (text ++ step s held said .text) (step s held said .state) (drop (step s held said .used) held) told.Failed
+
+-- a program may make its turn of this number where it stands so, whatever was read and written
+pub record MayTurn {S : Type 0} (step : Stepping S) (start : S) (n : ℕ) (s : S) (held : List ℕ) (said : Told) : Type 0 where
+  pub read : List ℕ
+  pub text : List ℕ
+  pub stands : Stood step start n read text s held said
+
+-- and it may read after a turn that asked for more and left this
+pub record MayRead {S : Type 0} (step : Stepping S) (start : S) (n : ℕ) (s : S) (held : List ℕ) : Type 0 where
+  pub state : S
+  pub before : List ℕ
+  pub said : Told
+  pub turned : MayTurn step start n state before said
+  pub asks : step state before said .next ≡ Reads
+  pub left : s ≡ step state before said .state
+  pub kept : held ≡ drop (step state before said .used) before

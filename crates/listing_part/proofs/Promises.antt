@@ -217,7 +217,7 @@ reads-there bytes b n p (Found r next) false go ih = refl
 reads-there bytes b n p NothingLeft t go ih = refl
 reads-there bytes b n p (Refused why) t go ih = refl
 
-part-reads : (more : ℕ) (bytes : List ℕ) (room : ℕ) (b : Bridge) (n p : ℕ)
+pub part-reads : (more : ℕ) (bytes : List ℕ) (room : ℕ) (b : Bridge) (n p : ℕ)
     → let P = partFor more bytes room b n p in P .reading ≡ readAt bytes (P .place)
 unfolding partFor stopsAt
 part-reads zero bytes room b n p = refl

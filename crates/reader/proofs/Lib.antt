@@ -3,3 +3,4 @@ pub mod FieldsRead
 pub mod OneRecord
 pub mod WholeFile
 pub mod RoundTrip
+pub mod Further

@@ -1,0 +1,5 @@
+pub mod Nexts
+pub mod Settled
+pub mod Moving
+pub mod Promises
+pub mod Making
