@@ -14,8 +14,10 @@ use lib.Signed.{ltZ, nonNeg}
 use mir.Syntax.{w32, w64}
 use mir.Val.{Fits, SFits, toZ, ofZ}
 use mir.Facts.{toZ-ofZ}
+use lib.Seq.{take-at, length-take-le}
+use Rattle.console.specs.declared.Came.{Came}
 use Rattle.console.specs.declared.Sent.{Sent}
-use Rattle.console.specs.Answers.{onlyWaits, readBehind, sentOf}
+use Rattle.console.specs.Answers.{onlyWaits, Read, readBehind, sentOf}
 
 bit : Bool → ℕ
 bit false = 0
@@ -93,3 +95,13 @@ was-read h l got e after waits r w c t =
 pub none-waits : false ≡ onlyWaits (pos 0)
 unfolding onlyWaits
 none-waits = refl
+
+-- what a reading gave, taken apart: what is held by the system's answer, and the bytes that were there
+pub read-gave : (h : Held) (l : List ℕ) (c : Came) (after : List ℕ) → h .filled ≤ length l
+    → record { came = c; bytes = after } ≡ readBehind h l (c .got) (c .error) after
+    → (c .held ≡ cameIn h (c .got) (onlyWaits (c .error)) (length l)) × (take (h .filled) after ≡ take (h .filled) l)
+unfolding readBehind
+read-gave h l c after w e =
+    let front = take (h .filled) l in
+    (ap (λ (x : Read). x .came .held) e,
+    ap (λ (x : Read). take (h .filled) (x .bytes)) e ∙ take-at front (drop (h .filled) after) (h .filled) (length-take-le (h .filled) l w))

@@ -1,181 +1,87 @@
 // The listing of a table file: reads it from standard input, and writes a line for each record and an end line.
-// What a record does is `listing_part`'s and what its line says `listing_text`'s; here are the buffers, the reading and the writing.
-use bridge::Bridge;
-use libc::STDIN_FILENO;
+// What a turn lists, and what comes after it, is `listing_turn`'s, and proved there; to read and to write is `console`'s.
+// Here is the loop, which makes each turn where the one before it and the reading after that have left the listing.
+use console::Edge;
+use console::Failure;
+use intake::Held;
+use intake::Next;
 use libc::STDOUT_FILENO;
-use quantity::Refusal;
-use tablefile::Reading;
+use listing_turn::Standing;
+use listing_turn::Turned;
 ghost use mathlib.Core.Path.{_≡_};
-ghost use Prim.Native.Nat.{_+_, _-_, _≤_};
-ghost use lib.ListN.{length, take, drop};
-ghost use Rattle.listing.specs.Buffers.{Standing};
+ghost use lib.ListN.{length};
+ghost use Rattle.intake.specs.Holding.{Within};
+ghost use Rattle.listing_turn.specs.Turns.{withHeld, turnMade};
+ghost use Rattle.listing_turn.specs.Promises.{MayList};
 
-// Where the listing stands.
-struct Progress {
-    bridge: Bridge,
-    // The lines so far.
-    count: u64,
-    // The bytes of the input buffer that are still to be listed: from the one place up to the other.
-    place: usize,
-    filled: usize,
-    is_over: bool,
-}
-
-// Moves the bytes of `buf` between two places to its front, and says how many they are.
-fn move_to_front(buf: &mut [u8], place: usize, filled: usize) -> usize
-    requires { ⌜ (place ≤ filled) × (filled ≤ length (now buf)) ⌝ }
-    ensures { λ r. ⌜ (r ≡ filled - place) × (take r (now (buf .exit)) ≡ take r (drop place (now (buf .entry)))) ⌝ }
+// Makes the turn of this number, where the program may.
+fn list_on(input: &mut [u8], output: &mut [u8], standing: Standing, turn: u64) -> Turned
+    requires { ⌜ Within (standing .held) (length (now input)) × MayList (length (now output)) turn standing (now input) ⌝ }
+    ensures { λ r. ⌜ record { turned = r; input = now (input .exit); output = now (output .exit) } ≡ turnMade standing (now (input .entry)) (now (output .entry)) ⌝ }
 {
-    let n = filled - place;
-    let mut i = 0;
-    while i < n {
-        buf[i] = buf[place + i];
-        i += 1;
-    }
-    n
+    listing_turn::turn(input, output, standing)
 }
 
-// Writes what ends the listing.
-fn write_end(output: &mut [u8], count: u64, reading: Reading) {
-    let n = listing_text::put_end(output, 0, count, reading);
-    io::write_all(STDOUT_FILENO, &output[..n]);
-}
-
-// Reads more to the end of the buffer's bytes, and says how many came: none where the input has ended.
-fn read_more(input: &mut [u8], filled: usize) -> usize
-    requires { ⌜ filled ≤ length (now input) ⌝ }
-    ensures { λ r. ⌜ filled + r ≤ length (now (input .entry)) ⌝ }
+fn with_held(standing: Standing, held: Held) -> Standing
+    ensures { λ r. ⌜ r ≡ withHeld standing held ⌝ }
 {
-    let space = &mut input[filled..];
-    let got = libc::read(STDIN_FILENO, space);
-    io::count(got, space)
-}
-
-// Reads more behind the bytes that are left; where the input has ended, the listing has too.
-fn refill(
-    input: &mut [u8],
-    output: &mut [u8],
-    bridge: Bridge,
-    count: u64,
-    place: usize,
-    filled: usize,
-    reading: Reading,
-) -> Progress
-    requires { ⌜ (place ≤ filled) × (filled ≤ length (now input)) ⌝ }
-    ensures { λ r. ⌜ Standing r (length (now (input .entry))) ⌝ }
-{
-    let left = move_to_front(input, place, filled);
-    let more = read_more(input, left);
-    if more == 0 {
-        write_end(output, count, reading);
-        return Progress {
-            bridge,
-            count,
-            place: 0,
-            filled: left,
-            is_over: true,
-        };
-    }
-    Progress {
+    let bridge = standing.bridge;
+    Standing {
         bridge,
-        count,
-        place: 0,
-        filled: left + more,
-        is_over: false,
+        count: standing.count,
+        bytes: standing.bytes,
+        held,
     }
 }
 
-fn is_cut_short(why: Refusal) -> bool {
-    match why {
-        Refusal::CutShort => true,
-        _ => false,
-    }
+// Says which of the two failed, after how many records and bytes.
+fn say_failed(edge: Edge, records: u64, bytes: u64) {
+    console::tell_failure(Failure {
+        edge,
+        records,
+        bytes,
+    });
 }
 
-// Goes on from what the reader gave: with the same bytes where the output had no room, with more of them where a record
-// may be cut by the buffer's edge, and else to the end.
-fn go_on(
-    input: &mut [u8],
-    output: &mut [u8],
-    bridge: Bridge,
-    count: u64,
-    place: usize,
-    filled: usize,
-    reading: Reading,
-) -> Progress
-    requires { ⌜ (place ≤ filled) × (filled ≤ length (now input)) ⌝ }
-    ensures { λ r. ⌜ Standing r (length (now (input .entry))) ⌝ }
-{
-    match reading {
-        Reading::Found { .. } => Progress {
-            bridge,
-            count,
-            place,
-            filled,
-            // Then a line more cannot be counted.
-            is_over: count == listing_text::MOST_LINES,
-        },
-        Reading::NothingLeft => refill(input, output, bridge, count, place, filled, reading),
-        Reading::Refused(why) => {
-            if is_cut_short(why) {
-                return refill(input, output, bridge, count, place, filled, reading);
-            }
-            write_end(output, count, reading);
-            Progress {
-                bridge,
-                count,
-                place,
-                filled,
-                is_over: true,
-            }
-        }
-    }
-}
-
-// Lists what is in the input buffer as far as the output buffer has room, and writes the lines. If that fails, it stops.
-fn turn(input: &mut [u8], output: &mut [u8], progress: Progress) -> Progress
-    requires { ⌜ Standing progress (length (now input)) ⌝ }
-    ensures { λ r. ⌜ Standing r (length (now (input .entry))) ⌝ }
-{
-    let place = progress.place;
-    let filled = progress.filled;
-    let before = progress.bridge;
-    let listed = listing_part::list_part(&input[place..filled], before, progress.count, output);
-    let written = listed.written;
-    let bridge = listed.bridge;
-    let count = listed.count;
-    let next = place + listed.place;
-    let reading = listed.reading;
-    if !io::write_all(STDOUT_FILENO, &output[..written]) {
-        return Progress {
-            bridge,
-            count,
-            place: next,
-            filled,
-            is_over: true,
-        };
-    }
-    go_on(input, output, bridge, count, next, filled, reading)
-}
-
-// A proved loop has to end, and nothing says that an input does. So the loop counts its turns down, from a number that no
-// run uses up.
+// Turn after turn. A proved loop has to end, and nothing says that an input does: the turns are counted, up to a number
+// that no run reaches. Of a writing that fails, the records are those whose lines were written whole before, and the
+// bytes those written.
 fn list_all(input: &mut [u8], output: &mut [u8]) {
-    let mut progress = Progress {
-        bridge: bridge::fresh(),
-        count: 0,
-        place: 0,
-        filled: 0,
-        is_over: false,
-    };
-    let mut turns = u64::MAX;
-    while turns > 0 {
-        if progress.is_over {
+    let mut standing = listing_turn::begin();
+    let mut sent: u64 = 0;
+    let mut turn: u64 = 0;
+    while turn < u64::MAX {
+        let records = standing.count;
+        let turned = list_on(input, output, standing, turn);
+        turn += 1;
+        standing = turned.standing;
+        let written = turned.written;
+        let out = console::write_out(STDOUT_FILENO, &output[..written]);
+        sent = std::num::wrapping_add_u64(sent, out.count as u64);
+        if !out.whole {
+            say_failed(Edge::Writing, records, sent);
             return;
         }
-        progress = turn(input, output, progress);
-        turns -= 1;
+        let next = turned.next;
+        match next {
+            Next::GoesOn => {
+                continue;
+            }
+            Next::Reads => {
+                let came = console::read_behind(input, standing.held);
+                standing = with_held(standing, came.held);
+                continue;
+            }
+            Next::Ends => {
+                return;
+            }
+            Next::Fails => {
+                say_failed(Edge::Reading, standing.count, standing.bytes);
+                return;
+            }
+        }
     }
+    say_failed(Edge::Reading, standing.count, standing.bytes);
 }
 
 fn main() {

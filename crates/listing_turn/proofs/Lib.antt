@@ -3,3 +3,4 @@ pub mod Settled
 pub mod Moving
 pub mod Promises
 pub mod Making
+pub mod Protocol

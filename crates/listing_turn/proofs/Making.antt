@@ -166,7 +166,7 @@ pub not-listed : (x : Standing) (input output : List ℕ) → isWithin (x .held)
 unfolding turnMade
 not-listed x input output e = sym (cond-false (isWithin (x .held) (length input)) (heldListed x input output) (nothingListed x input output) e)
 
-listed : (x : Standing) (input output : List ℕ) → Within (x .held) (length input) → heldListed x input output ≡ turnMade x input output
+pub listed : (x : Standing) (input output : List ℕ) → Within (x .held) (length input) → heldListed x input output ≡ turnMade x input output
 listed x input output w = is-listed x input output (within-is (x .held) (length input) w)
 
 pub turn-within : TurnWithin

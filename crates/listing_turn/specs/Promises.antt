@@ -1,20 +1,22 @@
 -- Document 01, 'The table file': what a session of turns of the listing writes.
 -- Each statement has a name here, and its proof under the same name in the file Promises of proofs/.
 use Prim.{Unit, tt}
-use Prim.Native.Nat.{ℕ, _+_, _^_, _≤_, _<_}
-use lib.ListN.{length, drop}
+use Prim.Native.Nat.{ℕ, suc, _+_, _≤_, _<_}
+use lib.IntN.{ℤ}
+use mathlib.Core.Bool.{Bool}
+use lib.ListN.{length, take, drop}
 use mathlib.Core.Path.{_≡_}
 use mathlib.Core.List.{List, [], _++_}
 use Rattle.tablefile.specs.BigEndian.{AreBytes}
 use Rattle.tablefile.specs.Layout.{ST, size}
 use Rattle.listing_text.specs.Places.{lineRoom, endRoom, mostLines}
 use Rattle.listing_part.specs.Listing.{listing, listingFrom}
-use Rattle.intake.specs.Holding.{Within, heldIn}
-use Rattle.intake.specs.Sessions.{Input, bytesOf, readings, EndsWell, Outcome, sessionOf}
+use Rattle.intake.specs.Holding.{Within, heldIn, cameIn}
+use Rattle.intake.specs.Sessions.{Input, bytesOf, readings, EndsWell, Outcome, sessionOf, MayTurn, MayRead}
 use Rattle.intake.specs.Promises.{Given, Right, Moves}
 use Rattle.intake.specs.declared.Told.{Told}
-use Rattle.intake.specs.declared.Next.the-variants.{Reads, Ends}
-use Rattle.listing_turn.specs.Turns.{Reached, start, listTurn, reachedBy, turnMade}
+use Rattle.intake.specs.declared.Next.the-variants.{GoesOn, Reads, Ends}
+use Rattle.listing_turn.specs.Turns.{Reached, start, listTurn, begunListing, reachedBy, withHeld, turnMade}
 use Rattle.listing_turn.specs.declared.Standing.{Standing}
 
 -- a session of at most so many turns from a fresh start, with an output buffer of so many bytes
@@ -100,3 +102,30 @@ TurnMakesRoom =
     (x : Standing) (input output : List ℕ) → Within (x .held) (length input) → size ST ≤ length input
     → turnMade x input output .turned .next ≡ Reads
     → turnMade x input output .turned .standing .held .filled < length (turnMade x input output .input)
+
+-- ---- the program
+
+-- the program may make its turn of this number, and may read after one, with an output buffer of so many bytes
+unfoldable pub MayList : ℕ → ℕ → Standing → List ℕ → Type 0
+MayList room n x input = MayTurn (listTurn room) start n (reachedBy x) (heldIn (x .held) input) (x .held .told)
+
+unfoldable pub MayReadOn : ℕ → ℕ → Standing → List ℕ → Type 0
+MayReadOn room n x input = MayRead (listTurn room) start n (reachedBy x) (heldIn (x .held) input)
+
+-- it may begin
+abbrev pub BeginStands : Type 0
+BeginStands = (room : ℕ) (input : List ℕ) → MayList room 0 begunListing input
+
+-- a turn lets it make the next, or read, by what it says comes next
+abbrev pub TurnStands : Type 0
+TurnStands =
+    (x : Standing) (input output : List ℕ) (n : ℕ) → Within (x .held) (length input) → MayList (length output) n x input
+    → (turnMade x input output .turned .next ≡ GoesOn → MayList (length output) (suc n) (turnMade x input output .turned .standing) (turnMade x input output .input))
+    × (turnMade x input output .turned .next ≡ Reads → MayReadOn (length output) n (turnMade x input output .turned .standing) (turnMade x input output .input))
+
+-- and so does a reading behind what is held that left it as it was
+abbrev pub ReadingLetsItGoOn : Type 0
+ReadingLetsItGoOn =
+    (room n : ℕ) (x : Standing) (input : List ℕ) → Within (x .held) (length input) → MayReadOn room n x input
+    → (got : ℤ) (waits : Bool) (after : List ℕ) → take (x .held .filled) after ≡ take (x .held .filled) input
+    → MayList room (suc n) (withHeld x (cameIn (x .held) got waits (length input))) after

@@ -131,3 +131,7 @@ nothingListed x input output = record { turned = record { standing = x; written 
 
 unfoldable pub turnMade : Standing → List ℕ → List ℕ → Made
 turnMade x input output = cond (isWithin (x .held) (length input)) (heldListed x input output) (nothingListed x input output)
+
+-- the same, with other bytes held
+unfoldable pub withHeld : Standing → Held → Standing
+withHeld x h = record { bridge = x .bridge; count = x .count; bytes = x .bytes; held = h }

@@ -1,0 +1,86 @@
+-- Where the program stands: after a turn, and after a reading. Assumes nothing.
+use mathlib.Core.Path.{_≡_, refl, sym, ap, _∙_, subst}
+use mathlib.Core.List.{List, []}
+use mathlib.Core.Bool.{Bool, true, false, cond}
+use Prim.Native.Nat.{ℕ, suc, _-_}
+use native.Mathlib.Omega.{arith}
+use lib.IntN.{ℤ}
+use lib.ListN.{length, take, drop}
+use Rattle.intake.specs.Holding.{Within, isWithin, nothingHeld, heldIn, cameIn, Kept, broughtKept, asItWas, keptFor}
+use Rattle.intake.specs.Sessions.{Turn, Stood, at-first, after-a-turn, MayTurn, MayRead}
+use Rattle.intake.specs.declared.Held.{Held}
+use Rattle.intake.specs.declared.Told.{Told}
+use Rattle.intake.specs.declared.Told.the-variants.{More}
+use Rattle.intake.specs.declared.Next.{Next}
+use Rattle.intake.specs.declared.Next.the-variants.{GoesOn, Reads, Ends, Fails}
+use Rattle.intake.proofs.Promises as sessions
+use Rattle.listing_turn.specs.Turns.{Reached, start, turnOf, listTurn, begunListing, reachedBy, leftHeld, withHeld, Made, madeOf, heldListed, turnMade}
+use Rattle.listing_turn.specs.Promises.{MayList, MayReadOn, BeginStands, TurnStands, ReadingLetsItGoOn}
+use Rattle.listing_turn.specs.declared.Standing.{Standing}
+use Rattle.listing_turn.specs.declared.Turned.{Turned}
+use Rattle.listing_turn.proofs.Making.{listed, turn-leaves}
+
+-- what is kept was told the same
+told-same : (n : Next) (h : Held) (l : List ℕ) → keptFor n h l .held .told ≡ h .told
+unfolding keptFor asItWas broughtKept
+told-same GoesOn h l = refl
+told-same Reads h l = go (isWithin h (length l))
+  where
+    go : (t : Bool) → cond t (broughtKept h l) (asItWas h l) .held .told ≡ h .told
+    go true = refl
+    go false = refl
+told-same Ends h l = refl
+told-same Fails h l = refl
+
+-- the turn over lent buffers is the turn over lists
+module _ (x : Standing) (input output : List ℕ) (w : Within (x .held) (length input)) where
+  abbrev T : Turn Reached
+  T = listTurn (length output) (reachedBy x) (heldIn (x .held) input) (x .held .told)
+
+  abbrev M : Made
+  M = turnMade x input output
+
+  is-state : reachedBy (M .turned .standing) ≡ T .state
+  unfolding heldListed madeOf reachedBy
+  is-state = ap (λ (m : Made). reachedBy (m .turned .standing)) (sym (listed x input output w))
+
+  is-next : M .turned .next ≡ T .next
+  unfolding heldListed madeOf
+  is-next = ap (λ (m : Made). m .turned .next) (sym (listed x input output w))
+
+  is-told : M .turned .standing .held .told ≡ x .held .told
+  unfolding heldListed madeOf leftHeld
+  is-told = ap (λ (m : Made). m .turned .standing .held .told) (sym (listed x input output w)) ∙ told-same (T .next) (leftHeld (x .held) (T .used)) input
+
+  pub goes-on : (n : ℕ) → MayList (length output) n x input → M .turned .next ≡ GoesOn → MayList (length output) (suc n) (M .turned .standing) (M .input)
+  unfolding MayList
+  goes-on n may e =
+      let next : MayTurn (listTurn (length output)) start (suc n) (T .state) (drop (T .used) (heldIn (x .held) input)) (x .held .told) =
+      record { read = may .read; text = _; stands = after-a-turn (may .stands) (sym is-next ∙ e) } in
+      subst (λ (s : Reached). MayTurn (listTurn (length output)) start (suc n) s (heldIn (M .turned .standing .held) (M .input)) (M .turned .standing .held .told)) (sym is-state)
+      (subst (λ (l : List ℕ). MayTurn (listTurn (length output)) start (suc n) (T .state) l (M .turned .standing .held .told)) (sym (turn-leaves x input output w))
+      (subst (λ (t : Told). MayTurn (listTurn (length output)) start (suc n) (T .state) (drop (T .used) (heldIn (x .held) input)) t) (sym is-told) next))
+
+  pub reads-on : (n : ℕ) → MayList (length output) n x input → M .turned .next ≡ Reads → MayReadOn (length output) n (M .turned .standing) (M .input)
+  unfolding MayList MayReadOn
+  reads-on n may e = record {
+    state = reachedBy x;
+    before = heldIn (x .held) input;
+    said = x .held .told;
+    turned = may;
+    asks = sym is-next ∙ e;
+    left = is-state;
+    kept = turn-leaves x input output w;
+  }
+
+pub begin-stands : BeginStands
+unfolding MayList begunListing nothingHeld reachedBy heldIn start
+begin-stands room input = record { read = []; text = []; stands = at-first }
+
+pub turn-stands : TurnStands
+turn-stands x input output n w may = (goes-on x input output w n may, reads-on x input output w n may)
+
+pub reading-lets-it-go-on : ReadingLetsItGoOn
+unfolding MayList MayReadOn withHeld reachedBy
+reading-lets-it-go-on room n x input w may got waits after same =
+    sessions.reading-stands Reached (listTurn room) start n (reachedBy x) (x .held) input w may got waits after same

@@ -1,0 +1,3 @@
+pub mod Account
+pub mod Steps
+pub mod Promises
