@@ -102,6 +102,7 @@ pub read-gave : (h : Held) (l : List ℕ) (c : Came) (after : List ℕ) → h .f
     → (c .held ≡ cameIn h (c .got) (onlyWaits (c .error)) (length l)) × (take (h .filled) after ≡ take (h .filled) l)
 unfolding readBehind
 read-gave h l c after w e =
-    let front = take (h .filled) l in
-    (ap (λ (x : Read). x .came .held) e,
-    ap (λ (x : Read). take (h .filled) (x .bytes)) e ∙ take-at front (drop (h .filled) after) (h .filled) (length-take-le (h .filled) l w))
+    let front = take (h .filled) l in (
+      ap (λ (x : Read). x .came .held) e,
+      ap (λ (x : Read). take (h .filled) (x .bytes)) e ∙ take-at front (drop (h .filled) after) (h .filled) (length-take-le (h .filled) l w),
+    )

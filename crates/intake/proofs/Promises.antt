@@ -17,8 +17,8 @@ use Rattle.intake.specs.declared.Told.the-variants as told
 use Rattle.intake.specs.declared.Next.{Next}
 use Rattle.intake.specs.declared.Next.the-variants.{GoesOn, Reads, Ends, Fails}
 use Rattle.intake.specs.declared.Held.{Held}
-use Rattle.intake.specs.Sessions.{Input, more, ended, failed, bytesOf, readings, EndsWell, at-its-end, after-more, Stepping, Outcome, stopped, written, onward, session, Stood, at-first, after-a-turn, after-a-reading, after-the-end, after-a-failure, MayTurn, MayRead}
-use Rattle.intake.specs.Promises.{Given, following, Meaning, Right, AllOfIt, TheBeginning, Moves, ComesToItsEnd, WrittenSoFar, ReadingStands, ReadingWithin, KeptWithin, KeptSame, RoomToRead, HeldAfterUse, HeldAfterReading}
+use Rattle.intake.specs.Sessions.{Input, more, ended, failed, bytesOf, readings, EndsWell, at-its-end, after-more, Stepping, Outcome, stopped, written, onward, session, Stood, at-first, after-a-turn, after-a-reading, after-the-end, after-a-failure, MayTurn, MayRead, HasEnded, Turned}
+use Rattle.intake.specs.Promises.{Given, following, Meaning, Right, AllOfIt, TheBeginning, Moves, ComesToItsEnd, WrittenSoFar, EndedIsAll, TurnStands, ReadingStands, ReadingWithin, KeptWithin, KeptSame, RoomToRead, HeldAfterUse, HeldAfterReading}
 use Rattle.quantity.proofs.Booleans.{both, cond-true, cond-false}
 use Rattle.intake.specs.Holding.{Within, isWithin, saying, cameIn, Kept, broughtKept, asItWas, heldIn, keptFor}
 use Rattle.intake.proofs.Keeping.{length-part}
@@ -402,6 +402,29 @@ module _ {S F : Type 0} (step : Stepping S) (finalOf : S → F) (whole : Meaning
 
 pub written-so-far : WrittenSoFar
 written-so-far S F step finalOf whole right start n read text s held said x h after = so-far step finalOf whole right start x h after
+
+pub ended-is-all : EndedIsAll
+unfolding following
+ended-is-all S F step finalOf whole right start n s e h =
+    let T = step (e .state) (e .before) (e .said) in
+    let b = held-bytes step finalOf whole right start (e .turned .stands) h in
+    ap (whole start) (sym (append-nil (e .turned .read)))
+    ∙ written-so-far S F step finalOf whole right start n _ _ _ _ _ (e .turned .stands) h []
+    ∙ ap (following (e .turned .text)) (right .last (e .state) (e .before) (e .said) [] b (λ i. omega arith) (λ z. refl) (e .ends))
+    ∙ ap (λ (x : S). record { text = e .turned .text ++ T .text; final = finalOf x }) (sym (e .left))
+
+pub turn-stands : TurnStands
+turn-stands S step start n s held said may s′ held′ said′ a b c =
+    let T = step s held said in
+    record {
+      goes = λ e.
+          subst (λ (x : S). MayTurn step start (suc n) x held′ said′) (sym a)
+          (subst (λ (l : List ℕ). MayTurn step start (suc n) (T .state) l said′) (sym b)
+          (subst (λ (t : Told). MayTurn step start (suc n) (T .state) (drop (T .used) held) t) (sym c)
+          (record { read = may .read; text = _; stands = after-a-turn (may .stands) e })));
+      reads = λ e. record { state = s; before = held; said = said; turned = may; asks = e; left = a; kept = b };
+      ends = λ e. record { state = s; before = held; said = said; turned = may; ends = e; left = a };
+    }
 
 -- the same bytes are held in two buffers that agree up to the place that is filled
 same-held : (h : Held) (t : Told) (l m : List ℕ) → h .place ≤ h .filled → take (h .filled) m ≡ take (h .filled) l → heldIn (saying h t) m ≡ heldIn h l

@@ -13,7 +13,7 @@ use Rattle.intake.specs.declared.Next.{Next}
 use Rattle.intake.specs.declared.Next.the-variants.{GoesOn, Reads, Ends, Fails}
 use Rattle.intake.specs.declared.Held.{Held}
 use Rattle.intake.specs.Holding.{Within, isWithin, heldIn, cameIn, Kept, keptFor}
-use Rattle.intake.specs.Sessions.{Input, bytesOf, readings, EndsWell, Stepping, sessionOf, Stood, MayTurn, MayRead}
+use Rattle.intake.specs.Sessions.{Input, bytesOf, readings, EndsWell, Stepping, sessionOf, Stood, MayTurn, MayRead, HasEnded, Turned}
 
 -- ---- what is written
 
@@ -62,6 +62,13 @@ WrittenSoFar =
     → (start : S) (n : ℕ) (read text : List ℕ) (s : S) (held : List ℕ) (said : Told) → Stood step start n read text s held said → AreBytes read → (after : List ℕ)
     → whole start (read ++ after) ≡ following text (whole s (held ++ after))
 
+-- and where it has ended, that is all
+abbrev pub EndedIsAll : Type 1
+EndedIsAll =
+    (S F : Type 0) (step : Stepping S) (finalOf : S → F) (whole : Meaning S F) → Right step finalOf whole
+    → (start : S) (n : ℕ) (s : S) (e : HasEnded step start n s) → AreBytes (e .turned .read)
+    → whole start (e .turned .read) ≡ record { text = e .turned .text ++ step (e .state) (e .before) (e .said) .text; final = finalOf s }
+
 -- ---- that it ends
 
 -- a session moves on: Stands says how a state may stand with so many bytes still to be used, and work how much is to be done beside them.
@@ -84,7 +91,15 @@ ComesToItsEnd =
     → work s + length (bytesOf input) + readings input + 1 < turns
     → sessionOf step turns s input .close ≡ Ends
 
--- ---- a reading
+-- ---- turns and readings
+
+-- a turn lets the program make the next one, read, or end, by what it says comes next
+abbrev pub TurnStands : Type 1
+TurnStands =
+    (S : Type 0) (step : Stepping S) (start : S) (n : ℕ) (s : S) (held : List ℕ) (said : Told) → MayTurn step start n s held said
+    → (s′ : S) (held′ : List ℕ) (said′ : Told)
+    → s′ ≡ step s held said .state → held′ ≡ drop (step s held said .used) held → said′ ≡ said
+    → Turned step start n (step s held said) s′ held′ said′
 
 -- a reading behind the bytes that were kept, which left them as they were, lets the program make its next turn
 abbrev pub ReadingStands : Type 1

@@ -107,3 +107,18 @@ pub record MayRead {S : Type 0} (step : Stepping S) (start : S) (n : ℕ) (s : S
   pub asks : step state before said .next ≡ Reads
   pub left : s ≡ step state before said .state
   pub kept : held ≡ drop (step state before said .used) before
+
+-- and it has ended after a turn that said so and left this
+pub record HasEnded {S : Type 0} (step : Stepping S) (start : S) (n : ℕ) (s : S) : Type 0 where
+  pub state : S
+  pub before : List ℕ
+  pub said : Told
+  pub turned : MayTurn step start n state before said
+  pub ends : step state before said .next ≡ Ends
+  pub left : s ≡ step state before said .state
+
+-- what lies open to a program after its turn of this number, which gave t and left these
+pub record Turned {S : Type 0} (step : Stepping S) (start : S) (n : ℕ) (t : Turn S) (s : S) (held : List ℕ) (said : Told) : Type 0 where
+  pub goes : t .next ≡ GoesOn → MayTurn step start (suc n) s held said
+  pub reads : t .next ≡ Reads → MayRead step start n s held
+  pub ends : t .next ≡ Ends → HasEnded step start n s

@@ -13,11 +13,11 @@ use Rattle.console.specs.Answers.{onlyWaits, readBehind}
 use Rattle.console.specs.declared.Came.{Came}
 use Rattle.console.proofs.Answers.{read-gave}
 use Rattle.listing_turn.specs.Turns.{begunListing, withHeld, Made, turnMade}
-use Rattle.listing_turn.specs.Promises.{MayList, MayReadOn}
+use Rattle.listing_turn.specs.Promises.{MayList, Listed}
 use Rattle.listing_turn.specs.declared.Standing.{Standing}
 use Rattle.listing_turn.specs.declared.Turned.{Turned}
 use Rattle.listing_turn.proofs.Making.{turned-within}
-use Rattle.listing_turn.proofs.Protocol.{begin-stands, turn-stands, reading-lets-it-go-on}
+use Rattle.listing_turn.proofs.Protocol.{begin-stands, turn-stands, reading-stands}
 
 -- before the turn of a number: the bytes still to be listed are in the input buffer, the program may make the turn, and both buffers are as long as they were
 pub record Rolling (input₀ output₀ : List ℕ) (standing : Standing) (turn : ℕ) (input output : List ℕ) : Type 0 where
@@ -42,8 +42,7 @@ begins x l o e =
 pub record Turning (input₀ output₀ : List ℕ) (r : Turned) (turn : ℕ) (input output : List ℕ) : Type 0 where
   pub within : Within (r .standing .held) (length input)
   pub written : r .written ≤ length output
-  pub goes : r .next ≡ GoesOn → MayList (length output) (suc turn) (r .standing) input
-  pub reads : r .next ≡ Reads → MayReadOn (length output) turn (r .standing) input
+  pub ahead : Listed (length output) turn (r .next) (r .standing) input
   pub long : length input ≡ length input₀
   pub wide : length output ≡ length output₀
 
@@ -51,17 +50,13 @@ pub turns : (i₀ o₀ : List ℕ) (x : Standing) (n : ℕ) (i o : List ℕ) (r 
     → record { turned = r; input = i₂; output = o₂ } ≡ turnMade x i o → Turning i₀ o₀ r n i₂ o₂
 turns i₀ o₀ x n i o r i₂ o₂ s e =
     let w = turned-within x i o i₂ o₂ r (s .within) e in
-    let t = turn-stands x i o n (s .within) (s .may) in
     let room : length o ≡ length o₂ = sym (w .3) in
     record {
       within = w .0;
       written = w .1;
-      goes = λ q.
-          subst (λ (k : ℕ). MayList k (suc n) (r .standing) i₂) room
-          (subst (λ (m : Made). MayList (length o) (suc n) (m .turned .standing) (m .input)) (sym e) (t .0 (ap (λ (m : Made). m .turned .next) (sym e) ∙ q)));
-      reads = λ q.
-          subst (λ (k : ℕ). MayReadOn k n (r .standing) i₂) room
-          (subst (λ (m : Made). MayReadOn (length o) n (m .turned .standing) (m .input)) (sym e) (t .1 (ap (λ (m : Made). m .turned .next) (sym e) ∙ q)));
+      ahead =
+          subst (λ (k : ℕ). Listed k n (r .next) (r .standing) i₂) room
+          (subst (λ (m : Made). Listed (length o) n (m .turned .next) (m .turned .standing) (m .input)) (sym e) (turn-stands x i o n (s .within) (s .may)));
       long = w .2 ∙ s .long;
       wide = w .3 ∙ s .wide;
     }
@@ -71,7 +66,7 @@ module _ (i₀ o₀ : List ℕ) (r : Turned) (n : ℕ) (i o : List ℕ) (t : Tur
   pub rolls-on : r .next ≡ GoesOn → Rolling i₀ o₀ (r .standing) (n + 1) i o
   rolls-on q = record {
     within = t .within;
-    may = subst (λ (k : ℕ). MayList (length o) k (r .standing) i) (sym (add-one n)) (t .goes q);
+    may = subst (λ (k : ℕ). MayList (length o) k (r .standing) i) (sym (add-one n)) (t .ahead .goes q);
     long = t .long;
     wide = t .wide;
   }
@@ -92,7 +87,7 @@ module _ (i₀ o₀ : List ℕ) (r : Turned) (n : ℕ) (i o : List ℕ) (t : Tur
         within = subst (λ (k : ℕ). Within (x .held) k) (sym same) (subst (λ (y : Held). Within y (length i)) (sym held) (reading-within h (c .got) (onlyWaits (c .error)) (length i) (t .within)));
         may =
             subst (λ (k : ℕ). MayList (length o) k x i₂) (sym (add-one n))
-            (subst (λ (y : Standing). MayList (length o) (suc n) y i₂) (sym is) (reading-lets-it-go-on (length o) n (r .standing) i (t .within) (t .reads q) (c .got) (onlyWaits (c .error)) i₂ (g .1)));
+            (subst (λ (y : Standing). MayList (length o) (suc n) y i₂) (sym is) (reading-stands (length o) n (r .standing) i (t .within) (t .ahead .reads q) (c .got) (onlyWaits (c .error)) i₂ (g .1)));
         long = same ∙ t .long;
         wide = t .wide;
       }

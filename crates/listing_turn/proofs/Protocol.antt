@@ -7,7 +7,7 @@ use native.Mathlib.Omega.{arith}
 use lib.IntN.{ℤ}
 use lib.ListN.{length, take, drop}
 use Rattle.intake.specs.Holding.{Within, isWithin, nothingHeld, heldIn, cameIn, Kept, broughtKept, asItWas, keptFor}
-use Rattle.intake.specs.Sessions.{Turn, Stood, at-first, after-a-turn, MayTurn, MayRead}
+use Rattle.intake.specs.Sessions.{Turn, at-first, MayTurn}
 use Rattle.intake.specs.declared.Held.{Held}
 use Rattle.intake.specs.declared.Told.{Told}
 use Rattle.intake.specs.declared.Told.the-variants.{More}
@@ -15,7 +15,7 @@ use Rattle.intake.specs.declared.Next.{Next}
 use Rattle.intake.specs.declared.Next.the-variants.{GoesOn, Reads, Ends, Fails}
 use Rattle.intake.proofs.Promises as sessions
 use Rattle.listing_turn.specs.Turns.{Reached, start, turnOf, listTurn, begunListing, reachedBy, leftHeld, withHeld, Made, madeOf, heldListed, turnMade}
-use Rattle.listing_turn.specs.Promises.{MayList, MayReadOn, BeginStands, TurnStands, ReadingLetsItGoOn}
+use Rattle.listing_turn.specs.Promises.{MayList, Listed, BeginStands, TurnStands, ReadingStands}
 use Rattle.listing_turn.specs.declared.Standing.{Standing}
 use Rattle.listing_turn.specs.declared.Turned.{Turned}
 use Rattle.listing_turn.proofs.Making.{listed, turn-leaves}
@@ -52,35 +52,18 @@ module _ (x : Standing) (input output : List ℕ) (w : Within (x .held) (length 
   unfolding heldListed madeOf leftHeld
   is-told = ap (λ (m : Made). m .turned .standing .held .told) (sym (listed x input output w)) ∙ told-same (T .next) (leftHeld (x .held) (T .used)) input
 
-  pub goes-on : (n : ℕ) → MayList (length output) n x input → M .turned .next ≡ GoesOn → MayList (length output) (suc n) (M .turned .standing) (M .input)
-  unfolding MayList
-  goes-on n may e =
-      let next : MayTurn (listTurn (length output)) start (suc n) (T .state) (drop (T .used) (heldIn (x .held) input)) (x .held .told) =
-      record { read = may .read; text = _; stands = after-a-turn (may .stands) (sym is-next ∙ e) } in
-      subst (λ (s : Reached). MayTurn (listTurn (length output)) start (suc n) s (heldIn (M .turned .standing .held) (M .input)) (M .turned .standing .held .told)) (sym is-state)
-      (subst (λ (l : List ℕ). MayTurn (listTurn (length output)) start (suc n) (T .state) l (M .turned .standing .held .told)) (sym (turn-leaves x input output w))
-      (subst (λ (t : Told). MayTurn (listTurn (length output)) start (suc n) (T .state) (drop (T .used) (heldIn (x .held) input)) t) (sym is-told) next))
-
-  pub reads-on : (n : ℕ) → MayList (length output) n x input → M .turned .next ≡ Reads → MayReadOn (length output) n (M .turned .standing) (M .input)
-  unfolding MayList MayReadOn
-  reads-on n may e = record {
-    state = reachedBy x;
-    before = heldIn (x .held) input;
-    said = x .held .told;
-    turned = may;
-    asks = sym is-next ∙ e;
-    left = is-state;
-    kept = turn-leaves x input output w;
-  }
-
 pub begin-stands : BeginStands
 unfolding MayList begunListing nothingHeld reachedBy heldIn start
 begin-stands room input = record { read = []; text = []; stands = at-first }
 
 pub turn-stands : TurnStands
-turn-stands x input output n w may = (goes-on x input output w n may, reads-on x input output w n may)
+unfolding MayList
+turn-stands x input output n w may =
+    let next = sym (is-next x input output w) in
+    let t = sessions.turn-stands Reached (listTurn (length output)) start n _ _ _ may _ _ _ (is-state x input output w) (turn-leaves x input output w) (is-told x input output w) in
+    record { goes = λ e. t .goes (next ∙ e); reads = λ e. t .reads (next ∙ e); ends = λ e. t .ends (next ∙ e) }
 
-pub reading-lets-it-go-on : ReadingLetsItGoOn
-unfolding MayList MayReadOn withHeld reachedBy
-reading-lets-it-go-on room n x input w may got waits after same =
+pub reading-stands : ReadingStands
+unfolding MayList withHeld reachedBy
+reading-stands room n x input w may got waits after same =
     sessions.reading-stands Reached (listTurn room) start n (reachedBy x) (x .held) input w may got waits after same

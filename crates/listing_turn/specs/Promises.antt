@@ -12,9 +12,10 @@ use Rattle.tablefile.specs.Layout.{ST, size}
 use Rattle.listing_text.specs.Places.{lineRoom, endRoom, mostLines}
 use Rattle.listing_part.specs.Listing.{listing, listingFrom}
 use Rattle.intake.specs.Holding.{Within, heldIn, cameIn}
-use Rattle.intake.specs.Sessions.{Input, bytesOf, readings, EndsWell, Outcome, sessionOf, MayTurn, MayRead}
+use Rattle.intake.specs.Sessions.{Input, bytesOf, readings, EndsWell, Outcome, sessionOf, MayTurn, MayRead, HasEnded}
 use Rattle.intake.specs.Promises.{Given, Right, Moves}
 use Rattle.intake.specs.declared.Told.{Told}
+use Rattle.intake.specs.declared.Next.{Next}
 use Rattle.intake.specs.declared.Next.the-variants.{GoesOn, Reads, Ends}
 use Rattle.listing_turn.specs.Turns.{Reached, start, listTurn, begunListing, reachedBy, withHeld, turnMade}
 use Rattle.listing_turn.specs.declared.Standing.{Standing}
@@ -105,27 +106,29 @@ TurnMakesRoom =
 
 -- ---- the program
 
--- the program may make its turn of this number, and may read after one, with an output buffer of so many bytes
+-- the program may make its turn of this number, with an output buffer of so many bytes
 unfoldable pub MayList : ℕ → ℕ → Standing → List ℕ → Type 0
 MayList room n x input = MayTurn (listTurn room) start n (reachedBy x) (heldIn (x .held) input) (x .held .told)
 
-unfoldable pub MayReadOn : ℕ → ℕ → Standing → List ℕ → Type 0
-MayReadOn room n x input = MayRead (listTurn room) start n (reachedBy x) (heldIn (x .held) input)
+-- and what lies open to it after a turn that said what comes next
+pub record Listed (room n : ℕ) (next : Next) (x : Standing) (input : List ℕ) : Type 0 where
+  pub goes : next ≡ GoesOn → MayList room (suc n) x input
+  pub reads : next ≡ Reads → MayRead (listTurn room) start n (reachedBy x) (heldIn (x .held) input)
+  pub ends : next ≡ Ends → HasEnded (listTurn room) start n (reachedBy x)
 
 -- it may begin
 abbrev pub BeginStands : Type 0
 BeginStands = (room : ℕ) (input : List ℕ) → MayList room 0 begunListing input
 
--- a turn lets it make the next, or read, by what it says comes next
+-- a turn lets it make the next, read or end, by what it says comes next
 abbrev pub TurnStands : Type 0
 TurnStands =
     (x : Standing) (input output : List ℕ) (n : ℕ) → Within (x .held) (length input) → MayList (length output) n x input
-    → (turnMade x input output .turned .next ≡ GoesOn → MayList (length output) (suc n) (turnMade x input output .turned .standing) (turnMade x input output .input))
-    × (turnMade x input output .turned .next ≡ Reads → MayReadOn (length output) n (turnMade x input output .turned .standing) (turnMade x input output .input))
+    → Listed (length output) n (turnMade x input output .turned .next) (turnMade x input output .turned .standing) (turnMade x input output .input)
 
--- and so does a reading behind what is held that left it as it was
-abbrev pub ReadingLetsItGoOn : Type 0
-ReadingLetsItGoOn =
-    (room n : ℕ) (x : Standing) (input : List ℕ) → Within (x .held) (length input) → MayReadOn room n x input
+-- and a reading behind what is held that left it as it was lets it make the next turn
+abbrev pub ReadingStands : Type 0
+ReadingStands =
+    (room n : ℕ) (x : Standing) (input : List ℕ) → Within (x .held) (length input) → MayRead (listTurn room) start n (reachedBy x) (heldIn (x .held) input)
     → (got : ℤ) (waits : Bool) (after : List ℕ) → take (x .held .filled) after ≡ take (x .held .filled) input
     → MayList room (suc n) (withHeld x (cameIn (x .held) got waits (length input))) after
