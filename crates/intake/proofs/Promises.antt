@@ -1,6 +1,6 @@
 -- The promises of a session, proved: each theorem has the name of its statement in specs/Promises. Assumes nothing.
 use mathlib.Core.Path.{_≡_, refl, sym, ap, _∙_, subst}
-use mathlib.Core.Bool.{Bool, true, false, _&&_}
+use mathlib.Core.Bool.{Bool, true, false, cond, _&&_}
 use mathlib.Core.List.{List, [], _∷_, _++_, append-assoc, append-nil}
 use Prim.Native.Nat.{ℕ, zero, suc, _+_, _-_, _≤_, _<_, min}
 use native.Mathlib.Nat.{zero-add, sub-zero, suc-sub-suc}
@@ -300,6 +300,18 @@ kept-within Reads h l w =
     (record { ahead = omega arith; inside = omega (arith, long, w .inside) }, long)
 kept-within Ends h l w = (w, refl)
 kept-within Fails h l w = (w, refl)
+
+-- what is kept was told the same
+pub kept-told : (n : Next) (h : Held) (l : List ℕ) → keptFor n h l .held .told ≡ h .told
+unfolding keptFor asItWas broughtKept
+kept-told GoesOn h l = refl
+kept-told Reads h l = go (isWithin h (length l))
+  where
+    go : (t : Bool) → cond t (broughtKept h l) (asItWas h l) .held .told ≡ h .told
+    go true = refl
+    go false = refl
+kept-told Ends h l = refl
+kept-told Fails h l = refl
 
 brought-same : (h : Held) (l : List ℕ) → Within h (length l) → heldIn (broughtKept h l .held) (broughtKept h l .bytes) ≡ heldIn h l
 unfolding broughtKept heldIn

@@ -1,12 +1,11 @@
 -- Where the program stands: after a turn, and after a reading. Assumes nothing.
 use mathlib.Core.Path.{_≡_, refl, sym, ap, _∙_, subst}
 use mathlib.Core.List.{List, []}
-use mathlib.Core.Bool.{Bool, true, false, cond}
 use Prim.Native.Nat.{ℕ, suc, _-_}
 use native.Mathlib.Omega.{arith}
 use lib.IntN.{ℤ}
 use lib.ListN.{length, take, drop}
-use Rattle.intake.specs.Holding.{Within, isWithin, nothingHeld, heldIn, cameIn, Kept, broughtKept, asItWas, keptFor}
+use Rattle.intake.specs.Holding.{Within, nothingHeld, heldIn}
 use Rattle.intake.specs.Sessions.{Turn, at-first, MayTurn}
 use Rattle.intake.specs.declared.Held.{Held}
 use Rattle.intake.specs.declared.Told.{Told}
@@ -19,18 +18,6 @@ use Rattle.listing_turn.specs.Promises.{MayList, Listed, BeginStands, Tu
 use Rattle.listing_turn.specs.declared.Standing.{Standing}
 use Rattle.listing_turn.specs.declared.Turned.{Turned}
 use Rattle.listing_turn.proofs.Making.{listed, turn-leaves}
-
--- what is kept was told the same
-told-same : (n : Next) (h : Held) (l : List ℕ) → keptFor n h l .held .told ≡ h .told
-unfolding keptFor asItWas broughtKept
-told-same GoesOn h l = refl
-told-same Reads h l = go (isWithin h (length l))
-  where
-    go : (t : Bool) → cond t (broughtKept h l) (asItWas h l) .held .told ≡ h .told
-    go true = refl
-    go false = refl
-told-same Ends h l = refl
-told-same Fails h l = refl
 
 -- the turn over lent buffers is the turn over lists
 module _ (x : Standing) (input output : List ℕ) (w : Within (x .held) (length input)) where
@@ -50,7 +37,7 @@ module _ (x : Standing) (input output : List ℕ) (w : Within (x .held) (length 
 
   is-told : M .turned .standing .held .told ≡ x .held .told
   unfolding heldListed madeOf leftHeld
-  is-told = ap (λ (m : Made). m .turned .standing .held .told) (sym (listed x input output w)) ∙ told-same (T .next) (leftHeld (x .held) (T .used)) input
+  is-told = ap (λ (m : Made). m .turned .standing .held .told) (sym (listed x input output w)) ∙ sessions.kept-told (T .next) (leftHeld (x .held) (T .used)) input
 
 pub begin-stands : BeginStands
 unfolding MayList begunListing nothingHeld reachedBy heldIn start

@@ -8,16 +8,17 @@ use lib.ListN.{length, take, drop, length-drop, take-append-drop}
 use lib.Seq.{length-sets, drop-drop}
 use Rattle.quantity.specs.Kinds.{ticks}
 use Rattle.tablefile.specs.BigEndian.{AreBytes}
-use Rattle.intake.specs.Sessions.{ended, at-its-end, bytesOf, readings}
+use Rattle.intake.specs.Sessions.{ended, at-its-end, bytesOf, readings, at-first}
+use Rattle.intake.specs.declared.Told.the-variants.{More}
 use Rattle.intake.specs.Promises.{Given, following, Moves}
 use Rattle.intake.proofs.Bytes.{bytes-front}
-use Rattle.intake.proofs.Promises.{all-of-it, comes-to-its-end}
+use Rattle.intake.proofs.Promises.{all-of-it, comes-to-its-end, turn-stands}
 use Rattle.replay_text.specs.Lines.{lineRoom}
 use Rattle.replay_text.specs.declared.Line.{Line}
 use Rattle.replay_text.specs.declared.Line.the-variants.{Answer, Pick}
 use Rattle.replay_text.proofs.Lengths.{no-longer}
-use Rattle.replay_account.specs.Account.{answerLines, pickLines, linesOf, told, accountText, partOf, putAs, linesPut, partPut}
-use Rattle.replay_account.specs.Promises.{accountTurn, linesLeft, TurnIsRight, PartIsTurn, AccountInParts, AllShort, none, and-one, LinesAreShort, LastIsShort, PartWithin}
+use Rattle.replay_account.specs.Account.{answerLines, pickLines, linesOf, told, accountText, partOf, PutPart, putAs, linesPut, partPut}
+use Rattle.replay_account.specs.Promises.{accountTurn, linesLeft, TurnIsRight, PartIsTurn, AccountInParts, AllShort, none, and-one, LinesAreShort, LastIsShort, PartWithin, MayTell, BeginStands, PartStands}
 use Rattle.replay_account.proofs.Parts.{then-the-rest, no-more-lines, some-put, text-within, short-behind, short-both, on-means, never-reads, end-means, failure-means}
 use Rattle.replay_account.proofs.Runs.{last-short}
 
@@ -110,3 +111,18 @@ pub part-within : PartWithin
 unfolding partPut linesPut putAs
 part-within a answers picked moments k out s =
     (text-within (length out) (short-behind k s), length-sets out 0 (partOf (length out) (drop k (linesOf a answers picked moments)) .text))
+
+-- ---- the program
+
+pub begin-stands : BeginStands
+unfolding MayTell
+begin-stands size lines = record { read = []; text = []; stands = at-first }
+
+pub part-stands : PartStands
+unfolding MayTell accountTurn
+part-stands a answers picked moments n k out may =
+    let lines = linesOf a answers picked moments in
+    let p = part-is-turn a answers picked moments k out [] More in
+    let next = ap (λ (x : PutPart). x .part .next) (sym p) in
+    let t = turn-stands ℕ (accountTurn (length out) lines) 0 n k [] More may _ [] More (ap (λ (x : PutPart). x .part .line) p) refl refl in
+    (λ e. t .goes (next ∙ e), λ e. t .ends (next ∙ e))

@@ -1,6 +1,6 @@
 -- What is promised of an account in parts beside the contracts.
 -- Each statement has a name here, and its proof under the same name in the file Promises of proofs/.
-use Prim.Native.Nat.{ℕ, _+_, _≤_, _<_}
+use Prim.Native.Nat.{ℕ, suc, _+_, _≤_, _<_}
 use mathlib.Core.Path.{_≡_}
 use mathlib.Core.List.{List, [], _∷_}
 use lib.ListN.{length, drop}
@@ -8,8 +8,9 @@ use lib.Seq.{sets}
 use Rattle.tablefile.specs.BigEndian.{AreBytes}
 use Rattle.line.specs.declared.Ran.{Ran}
 use Rattle.intake.specs.declared.Told.{Told}
-use Rattle.intake.specs.declared.Next.the-variants.{Ends}
-use Rattle.intake.specs.Sessions.{ended, Stepping, sessionOf}
+use Rattle.intake.specs.declared.Told.the-variants.{More}
+use Rattle.intake.specs.declared.Next.the-variants.{GoesOn, Ends}
+use Rattle.intake.specs.Sessions.{ended, Stepping, sessionOf, MayTurn, HasEnded}
 use Rattle.intake.specs.Promises.{Meaning, Right}
 use Rattle.replay_text.specs.Lines.{textOf, lineRoom}
 use Rattle.replay_text.specs.declared.Line.{Line}
@@ -73,3 +74,22 @@ PartWithin =
     (a : Account) (answers picked moments : List ℕ) (k : ℕ) (out : List ℕ) → AllShort (linesOf a answers picked moments)
     → let x = partPut a answers picked moments k out in
     (x .part .written ≤ length out) × (length (x .out) ≡ length out)
+
+-- ---- the program
+
+-- it may put the part of this number, from the line k on, into so many bytes
+unfoldable pub MayTell : ℕ → List Line → ℕ → ℕ → Type 0
+MayTell size lines n k = MayTurn (accountTurn size lines) 0 n k [] More
+
+-- it may begin with the first line
+abbrev pub BeginStands : Type 0
+BeginStands = (size : ℕ) (lines : List Line) → MayTell size lines 0 0
+
+-- a part lets it put the next, or end, by what it says comes next
+abbrev pub PartStands : Type 0
+PartStands =
+    (a : Account) (answers picked moments : List ℕ) (n k : ℕ) (out : List ℕ)
+    → let lines = linesOf a answers picked moments in
+    let x = partPut a answers picked moments k out .part in
+    MayTell (length out) lines n k
+    → (x .next ≡ GoesOn → MayTell (length out) lines (suc n) (x .line)) × (x .next ≡ Ends → HasEnded (accountTurn (length out) lines) 0 n (x .line))

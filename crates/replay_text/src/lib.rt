@@ -1,11 +1,13 @@
-// The account of a run: the lines that a replay prints, put into lent bytes. Decimal numbers are `text`'s; the run that the
-// lines tell of is `line`'s. Input and output live with the programs.
+// The account of a run: the lines that a replay prints, and what it says of the records that it reads, put into lent
+// bytes. Decimal numbers are `text`'s; the run that the lines tell of is `line`'s. Input and output live with the
+// programs.
 use quantity::Ticks;
 ghost use mathlib.Core.Path.{_≡_};
 ghost use mathlib.Core.List.{[], _∷_};
 ghost use Rattle.text.specs.Decimal.{decimal};
 ghost use Rattle.text.specs.Places.{placed};
 ghost use Rattle.replay_text.specs.Lines.{lineEnd, pair, stop, linePut};
+ghost use Rattle.replay_text.specs.Notes.{refusedSetUp, unreadable, notePut};
 ghost use Rattle.text.specs.Puts.{puts};
 
 // The longest line: a stop's, with as many digits as its numbers can have.
@@ -33,6 +35,24 @@ pub enum Line {
         events: u64,
         picks: u64,
     },
+}
+
+// What a replay says on standard error of a record, one line or nothing.
+pub enum Note {
+    Nothing,
+    // `record N: set-up refused, NUMBER`
+    NotSetUp {
+        record: u64,
+        number: u8,
+    },
+    // `failed: record N at byte OFFSET: unreadable, NUMBER`
+    Unreadable {
+        record: u64,
+        offset: u64,
+        number: u8,
+    },
+    // `failed: more than 65536 FR records`
+    TooManyFrames,
 }
 
 // One character.
@@ -108,5 +128,47 @@ pub fn put_line(out: &mut [u8], at: usize, line: Line) -> usize
             events,
             picks,
         } => put_stop(out, at, number as u64, next, free.0, events, picks),
+    }
+}
+
+// ---- notes
+
+// A record's number, and the number that refused its set-up.
+fn put_refused_set_up(out: &mut [u8], at: usize, n: u64, number: u64) -> usize
+    ensures { λ r. ⌜ record { next = r; bytes = now (out .exit) } ≡ puts (now (out .entry)) at (refusedSetUp n number) ⌝ }
+{
+    let after = text::put_field(out, at, b"record ", n);
+    put_last(out, after, b": set-up refused, ", number)
+}
+
+// A record's number, the offset of its first byte, and the number that the reader gave there.
+fn put_unreadable(out: &mut [u8], at: usize, n: u64, offset: u64, number: u64) -> usize
+    ensures { λ r. ⌜ record { next = r; bytes = now (out .exit) } ≡ puts (now (out .entry)) at (unreadable n offset number) ⌝ }
+{
+    let after_record = text::put_field(out, at, b"failed: record ", n);
+    let after_offset = text::put_field(out, after_record, b" at byte ", offset);
+    put_last(out, after_offset, b": unreadable, ", number)
+}
+
+// Puts a note at a place, where the longest line would have room.
+pub fn put_note(out: &mut [u8], at: usize, note: Note) -> usize
+    ensures { λ r. ⌜ record { next = r; bytes = now (out .exit) } ≡ notePut (now (out .entry)) at note ⌝ }
+{
+    let len = out.len();
+    if len < at {
+        return at;
+    }
+    if len - at < LINE_ROOM {
+        return at;
+    }
+    match note {
+        Note::Nothing => at,
+        Note::NotSetUp { record, number } => put_refused_set_up(out, at, record, number as u64),
+        Note::Unreadable {
+            record,
+            offset,
+            number,
+        } => put_unreadable(out, at, record, offset, number as u64),
+        Note::TooManyFrames => text::put_text(out, at, b"failed: more than 65536 FR records\n"),
     }
 }

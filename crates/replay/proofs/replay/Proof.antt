@@ -1,8 +1,6 @@
--- `replay::replay` is safe. Assumes nothing.
-use borrow.Author.Needs.{needs}
-use mathlib.Core.Path.{sym}
+-- `replay::replay` is safe, and runs only what was read as a whole. Assumes nothing.
 use native.Mathlib.Omega.{arith}
-use lib.Seq.{length-take-le}
+use borrow.Author.Needs.{needs}
 use Rattle.replay.proofs.replay.Statement.{statement}
 use Rattle.replay.proofs.replay.Tie as tie
 
@@ -18,6 +16,9 @@ list-of-u16-requires c κs = search needs
 large-buffer-requires : tie.Need-large-buffer-requires
 large-buffer-requires c κs = search needs
 
+buffer-requires : tie.Need-buffer-requires
+buffer-requires c κs = search needs
+
 slice-aggregate-read-table : tie.Need-slice-aggregate-read-table
 slice-aggregate-read-table c = search needs
 
@@ -30,32 +31,27 @@ slice-aggregate-read-table-3 c = search needs
 slice-aggregate-read-table-4 : tie.Need-slice-aggregate-read-table-4
 slice-aggregate-read-table-4 c = search needs
 
+slice-aggregate-read-table-5 : tie.Need-slice-aggregate-read-table-5
+slice-aggregate-read-table-5 c = search needs
+
 read-table-requires : tie.Need-read-table-requires
 read-table-requires c κs = search needs
 
-smaller-requires : tie.Need-smaller-requires
-smaller-requires c κs = search needs
+slice-aggregate-run-table : tie.Need-slice-aggregate-run-table
+slice-aggregate-run-table c = search needs
 
-array-share-prefix-arrivals : tie.Need-array-share-prefix-arrivals
-array-share-prefix-arrivals c = search needs
+slice-aggregate-run-table-2 : tie.Need-slice-aggregate-run-table-2
+slice-aggregate-run-table-2 c = search needs
 
-slice-aggregate-run-lists : tie.Need-slice-aggregate-run-lists
-slice-aggregate-run-lists c = sym (length-take-le _ _ (omega arith))
+slice-aggregate-run-table-3 : tie.Need-slice-aggregate-run-table-3
+slice-aggregate-run-table-3 c = search needs
 
-array-share-prefix-ids : tie.Need-array-share-prefix-ids
-array-share-prefix-ids c = search needs
-
-slice-aggregate-run-lists-2 : tie.Need-slice-aggregate-run-lists-2
-slice-aggregate-run-lists-2 c = sym (length-take-le _ _ (omega arith))
-
-array-share-prefix-octets : tie.Need-array-share-prefix-octets
-array-share-prefix-octets c = search needs
-
-slice-aggregate-run-lists-3 : tie.Need-slice-aggregate-run-lists-3
-slice-aggregate-run-lists-3 c = sym (length-take-le _ _ (omega arith))
-
-run-lists-requires : tie.Need-run-lists-requires
-run-lists-requires c κs = search needs
+run-table-requires : tie.Need-run-table-requires
+run-table-requires c κs =
+    let e = c .before .before .before .before .before .before .before .before .before .read-table .ensures in
+    let w = c .before .before .before .if1 .taken in
+    let p = e .2 in
+    (e .0 w, w, omega (arith, e .1, p .for-arrivals), omega (arith, e .1, p .for-ids), omega (arith, e .1, p .for-octets))
 
 returns : tie.Need-returns
 returns c = search needs
@@ -71,18 +67,16 @@ replay-spec =
     list-of-u8-requires
     list-of-u16-requires
     large-buffer-requires
+    buffer-requires
     slice-aggregate-read-table
     slice-aggregate-read-table-2
     slice-aggregate-read-table-3
     slice-aggregate-read-table-4
+    slice-aggregate-read-table-5
     read-table-requires
-    smaller-requires
-    array-share-prefix-arrivals
-    slice-aggregate-run-lists
-    array-share-prefix-ids
-    slice-aggregate-run-lists-2
-    array-share-prefix-octets
-    slice-aggregate-run-lists-3
-    run-lists-requires
+    slice-aggregate-run-table
+    slice-aggregate-run-table-2
+    slice-aggregate-run-table-3
+    run-table-requires
     returns
     returns-2)

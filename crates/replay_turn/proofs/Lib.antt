@@ -1,0 +1,11 @@
+pub mod Places
+pub mod Halts
+pub mod Ready
+pub mod Turning
+pub mod Making
+pub mod Reading
+pub mod Meaning
+pub mod Nexts
+pub mod Right
+pub mod Promises
+pub mod Protocol

@@ -1,0 +1,5 @@
+pub mod Gathered
+pub mod Turns
+pub mod Promises
+pub mod Figures
+pub mod Protocol
