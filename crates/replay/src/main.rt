@@ -3,7 +3,6 @@
 // there is none), and prints each frame's answer, each pick and how the run stopped. What a turn of the reading gathers,
 // what the run does and what is told of it is `replay_turn`'s, `line`'s and `replay_account`'s, and proved there; to read
 // and to write is `console`'s. Here are the arguments, the lists and the two loops.
-use bridge::Bridge;
 use console::Edge;
 use console::Failure;
 use intake::Held;
@@ -28,6 +27,7 @@ ghost use Rattle.replay_turn.specs.Turns.{turnMade};
 ghost use Rattle.replay_turn.specs.Protocol.{Places, MayGather, HasGathered, withHeld};
 ghost use Rattle.replay_account.specs.Account.{linesOf, partPut};
 ghost use Rattle.replay_account.specs.Promises.{MayTell};
+ghost use Rattle.replay.specs.Replaying.{Replayed};
 
 // The places of each list: as many as a run takes.
 const PLACES: usize = quantity::MOST_LIST_PLACES as usize;
@@ -251,8 +251,10 @@ fn print_account(
     }
 }
 
-// The lines of a run.
-fn print_run(ran: Ran, answers: &[u8], picked: &[u32], moments: &[u64], records: u64) {
+// The lines of a run of what a whole file gave.
+fn print_run(ran: Ran, answers: &[u8], picked: &[u32], moments: &[u64], records: u64)
+    requires { ⌜ Replayed ran (now answers) (now picked) (now moments) ⌝ }
+{
     let mut out = io::large_buffer();
     let account = replay_account::account_of(ran);
     print_account(&mut out, account, answers, picked, moments, records);
@@ -260,37 +262,7 @@ fn print_run(ran: Ran, answers: &[u8], picked: &[u32], moments: &[u64], records:
 
 // ---- the run
 
-// Runs the arrivals of the lists, and prints the lines.
-fn run_lists(
-    bridge: Bridge,
-    arrivals: &[u64],
-    ids: &[u8],
-    octets: &[u16],
-    rate: Rate,
-    free: Ticks,
-    records: u64,
-) {
-    let mut answers = list_of_u8();
-    let mut picked = list_of_u32();
-    let mut moments = list_of_u64();
-    let ran = line::run(
-        bridge,
-        waiting::empty(),
-        arrivals,
-        ids,
-        octets,
-        0,
-        rate,
-        free,
-        EVENT_BUDGET,
-        &mut answers,
-        &mut picked,
-        &mut moments,
-    );
-    print_run(ran, &answers, &picked, &moments, records);
-}
-
-// Runs what a table file has given, the whole of which was read.
+// Runs what a table file has given, the whole of which was read, and prints the lines.
 fn run_table(
     standing: Standing,
     arrivals: &[u64],
@@ -304,15 +276,24 @@ fn run_table(
 {
     let bridge = standing.bridge;
     let count = standing.count;
-    run_lists(
+    let mut answers = list_of_u8();
+    let mut picked = list_of_u32();
+    let mut moments = list_of_u64();
+    let ran = line::run(
         bridge,
+        waiting::empty(),
         &arrivals[..count],
         &ids[..count],
         &octets[..count],
+        0,
         rate,
         free,
-        standing.records,
+        EVENT_BUDGET,
+        &mut answers,
+        &mut picked,
+        &mut moments,
     );
+    print_run(ran, &answers, &picked, &moments, standing.records);
 }
 
 // Reads the table file and, where the whole of it could be read, runs it.
