@@ -1,17 +1,17 @@
 -- Laws of the system's answers: an error's number, and what a reading leaves. Assumes nothing.
 use mathlib.Core.Path.{_≡_, refl, sym, ap, _∙_}
-use mathlib.Core.Bool.{Bool, true, false, _||_}
-use Prim.Native.Nat.{ℕ, _+_, _^_, _<_, _≤_, min}
+use mathlib.Core.Bool.{Bool, true, false}
+use Prim.Native.Nat.{ℕ, _+_, _<_, _≤_, min}
 use native.Mathlib.Omega.{arith}
 use borrow.Author.Tests.{ltb-true, eq-eqb, ne-eqb, le-leb, lt-leb}
-use lib.Dec.{T, ltb, eqb, leb}
+use lib.Dec.{T, eqb}
 use lib.IntN.{ℤ, pos, negsuc, natAbs}
 use lib.ListN.{length, take, drop, take-append-drop}
 use mathlib.Core.List.{List, _++_}
 use Rattle.intake.specs.declared.Held.{Held}
 use Rattle.intake.specs.Holding.{cameIn}
 use lib.Signed.{ltZ, nonNeg}
-use mir.Syntax.{w32, w64}
+use mir.Syntax.{w32}
 use mir.Val.{Fits, SFits, toZ, ofZ}
 use mir.Facts.{toZ-ofZ}
 use lib.Seq.{take-at, length-take-le}

@@ -1,11 +1,11 @@
 -- Laws of the line that says what failed: it is short. Assumes nothing.
 use mathlib.Core.Path.{_≡_, sym, ap, _∙_}
-use mathlib.Core.List.{List, []}
-use Prim.Native.Nat.{ℕ, _+_, _≤_}
+use mathlib.Core.List.{List}
+use Prim.Native.Nat.{ℕ, _≤_}
 use native.Mathlib.Nat.{zero-add}
 use native.Mathlib.Omega.{arith}
 use lib.ListN.{length, take, length-append}
-use lib.Seq.{sets, length-sets, length-take-le}
+use lib.Seq.{length-sets, length-take-le}
 use Rattle.text.specs.Places.{Placed}
 use Rattle.text.specs.Puts.{joined, puts}
 use Rattle.text.proofs.Stores.{fits}

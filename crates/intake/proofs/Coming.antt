@@ -1,7 +1,7 @@
 -- Laws of what a reading answered: more than none, below 0, and none. Assumes nothing.
-use mathlib.Core.Path.{_≡_, refl, sym, ap, _∙_}
+use mathlib.Core.Path.{_≡_, sym, ap}
 use mathlib.Core.Bool.{Bool, true, false, cond}
-use Prim.Native.Nat.{ℕ, zero, suc, _+_, _-_, _^_, _<_, min}
+use Prim.Native.Nat.{ℕ, zero, suc, _+_, _-_, min}
 use native.Mathlib.Omega.{arith}
 use borrow.Author.Tests.{ltb-true, ltb-false}
 use lib.Dec.{T, ltb}

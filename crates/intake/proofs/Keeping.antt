@@ -8,8 +8,7 @@ use native.Mathlib.Omega.{arith}
 use lib.ListN.{length, getD, take, drop, set, length-set, length-drop, take-append-drop}
 use lib.Seq.{take-suc, take-suc-set, drop-set-lt, drop-drop, getD-drop, sets, sets-eq, length-take-le}
 use Rattle.intake.specs.declared.Held.{Held}
-use Rattle.intake.specs.declared.Told.{Told}
-use Rattle.intake.specs.Holding.{heldIn, broughtKept, Kept}
+use Rattle.intake.specs.Holding.{heldIn, broughtKept}
 
 -- i bytes were moved from a place of l to its front, and the list is now m
 pub record Moved (l : List ℕ) (place i : ℕ) (m : List ℕ) : Type 0 where

@@ -1,13 +1,13 @@
 -- The promises of a session, proved: each theorem has the name of its statement in specs/Promises. Assumes nothing.
 use mathlib.Core.Path.{_≡_, refl, sym, ap, _∙_, subst}
-use mathlib.Core.Bool.{Bool, true, false, cond, _&&_}
+use mathlib.Core.Bool.{Bool, true, false, cond}
 use mathlib.Core.List.{List, [], _∷_, _++_, append-assoc, append-nil}
 use Prim.Native.Nat.{ℕ, zero, suc, _+_, _-_, _≤_, _<_, min}
 use native.Mathlib.Nat.{zero-add, sub-zero, suc-sub-suc}
 use borrow.Author.Tests.{le-leb, lt-leb, leb-true}
 use lib.Dec.{leb}
 use native.Mathlib.Omega.{arith}
-use lib.IntN.{ℤ, pos, negsuc}
+use lib.IntN.{pos, negsuc}
 use lib.ListN.{length, take, drop, length-append}
 use lib.Seq.{sets, sets-eq, length-sets, take-at, take-add, drop-drop}
 use Rattle.tablefile.specs.BigEndian.{AreBytes}
@@ -17,8 +17,8 @@ use Rattle.intake.specs.declared.Told.the-variants as told
 use Rattle.intake.specs.declared.Next.{Next}
 use Rattle.intake.specs.declared.Next.the-variants.{GoesOn, Reads, Ends, Fails}
 use Rattle.intake.specs.declared.Held.{Held}
-use Rattle.intake.specs.Sessions.{Input, more, ended, failed, bytesOf, readings, EndsWell, at-its-end, after-more, Stepping, Outcome, stopped, written, onward, session, Stood, at-first, after-a-turn, after-a-reading, after-the-end, after-a-failure, MayTurn, MayRead, HasEnded, Turned}
-use Rattle.intake.specs.Promises.{Given, following, Meaning, Right, AllOfIt, TheBeginning, Moves, ComesToItsEnd, WrittenSoFar, EndedIsAll, TurnStands, ReadingStands, ReadingWithin, KeptWithin, KeptSame, RoomToRead, HeldAfterUse, HeldAfterReading}
+use Rattle.intake.specs.Sessions.{Input, more, ended, failed, bytesOf, readings, EndsWell, after-more, Stepping, Outcome, stopped, written, onward, session, Stood, at-first, after-a-turn, after-a-reading, after-the-end, after-a-failure, MayTurn, MayRead}
+use Rattle.intake.specs.Promises.{following, Meaning, Right, AllOfIt, TheBeginning, Moves, ComesToItsEnd, WrittenSoFar, EndedIsAll, TurnStands, ReadingStands, ReadingWithin, KeptWithin, KeptSame, RoomToRead, HeldAfterUse, HeldAfterReading}
 use Rattle.quantity.proofs.Booleans.{both, cond-true, cond-false}
 use Rattle.intake.specs.Holding.{Within, isWithin, saying, cameIn, Kept, broughtKept, asItWas, heldIn, keptFor}
 use Rattle.intake.proofs.Keeping.{length-part}

@@ -2,7 +2,7 @@
 -- Each statement has a name here, and its proof under the same name in the file Promises of proofs/.
 use Prim.Native.Nat.{ℕ, suc, _+_, _-_, _≤_, _<_, min}
 use mathlib.Core.Path.{_≡_}
-use mathlib.Core.Bool.{Bool, true}
+use mathlib.Core.Bool.{Bool}
 use mathlib.Core.List.{List, [], _++_}
 use lib.IntN.{ℤ, pos}
 use lib.ListN.{length, take, drop}
@@ -12,7 +12,7 @@ use Rattle.intake.specs.declared.Told.the-variants.{More, Ended, Failed}
 use Rattle.intake.specs.declared.Next.{Next}
 use Rattle.intake.specs.declared.Next.the-variants.{GoesOn, Reads, Ends, Fails}
 use Rattle.intake.specs.declared.Held.{Held}
-use Rattle.intake.specs.Holding.{Within, isWithin, heldIn, cameIn, Kept, keptFor}
+use Rattle.intake.specs.Holding.{Within, heldIn, cameIn, keptFor}
 use Rattle.intake.specs.Sessions.{Input, bytesOf, readings, EndsWell, Stepping, sessionOf, Stood, MayTurn, MayRead, HasEnded, Turned}
 
 -- ---- what is written

@@ -1,21 +1,18 @@
 -- The promises of the listing, proved: each theorem has the name of its statement in specs/Promises. Assumes nothing.
 use mathlib.Core.Path.{_≡_, refl, sym, ap, _∙_}
 use mathlib.Core.Logic.{_⊎_, inl, inr}
-use mathlib.Core.Bool.{Bool, true, false, cond}
-use mathlib.Core.Option.{Option, none, some}
-use mathlib.Core.List.{List, [], _∷_, _++_, append-assoc, append-nil}
+use mathlib.Core.Bool.{Bool, true, false}
+use mathlib.Core.List.{List, [], _++_, append-assoc, append-nil}
 use Prim.Native.Nat.{ℕ, zero, suc, _+_, _-_, _≤_, _<_}
-use native.Mathlib.Nat.{zero-add, sub-zero, add-assoc, add-zero}
+use native.Mathlib.Nat.{sub-zero, add-zero}
 use native.Mathlib.Omega.{arith}
-use lib.Dec.{ltb}
 use lib.ListN.{length, take, drop, length-append, take-append-drop}
-use lib.Seq.{drop-append-add, length-take-le}
+use lib.Seq.{length-take-le}
 use Rattle.quantity.specs.declared.Ticks.{Ticks}
 use Rattle.quantity.specs.declared.Refusal.{Refusal}
-use Rattle.quantity.specs.declared.Refusal.the-variants.{CutShort}
 use Rattle.tablefile.specs.BigEndian.{AreBytes}
-use Rattle.tablefile.specs.Layout.{Kind, kinds, widths, total, size, GR, GD, ST, FR}
-use Rattle.reader.specs.Reader.{markedAmong, readFields, readMarked, readLeft, readAt}
+use Rattle.tablefile.specs.Layout.{Kind, GR, GD, ST, FR}
+use Rattle.reader.specs.Reader.{readAt}
 use Rattle.tablefile.specs.Answers.{nothingLeft, readingNumber}
 use Rattle.reader.specs.File.{onwards, contentsFrom}
 use Rattle.tablefile.specs.declared.Record.{Record}
@@ -23,7 +20,7 @@ use Rattle.tablefile.specs.declared.Record.the-variants as made
 use Rattle.tablefile.specs.declared.Reading.{Reading}
 use Rattle.tablefile.specs.declared.Reading.the-variants.{Found, NothingLeft, Refused}
 use Rattle.reader.proofs.Marks.{none-left}
-use Rattle.reader.proofs.RoundTrip.{one-at-a-time, found-in-the-whole}
+use Rattle.reader.proofs.RoundTrip.{one-at-a-time}
 use Rattle.records.specs.Numbers.{answerNumber, answerValues}
 use Rattle.records.specs.declared.Answer.{Answer}
 use Rattle.records.specs.declared.Answer.the-variants as answer
@@ -38,7 +35,8 @@ use Rattle.listing_part.specs.Listing.{recordLines, listingOf, listingFr
 use Rattle.listing_part.specs.Parts.{Part, onto, mayGoOn, goingOn, stopsAt, partFor, partOf}
 use Rattle.listing_part.specs.Promises.{DefaultAsInFull, AsFarAsItMay, TimeOfJudgedFrames, ListingInParts, ListingToItsEnd, PartWithin, Shows, time, set-up, refused}
 use Rattle.listing_part.proofs.Stepping.{may-means}
-use Rattle.listing_part.proofs.Underway.{found-further, line-within}
+use Rattle.reader.proofs.Further.{moved, moved-at, found-further, found-there}
+use Rattle.listing_part.proofs.Underway.{line-within}
 
 pub default-as-in-full : DefaultAsInFull
 unfolding callOf
@@ -46,32 +44,6 @@ default-as-in-full (made.Group i c M) = refl
 default-as-in-full (made.GroupDefault i c) = refl
 default-as-in-full (made.Stream i k r u) = refl
 default-as-in-full (made.Frame i n A) = refl
-
--- ---- a file from a place on is the file without what stands before it
-
--- what the reader gives at a place that is d further on
-moved : ℕ → Reading → Reading
-moved d (Found r next) = Found r (d + next)
-moved d NothingLeft = NothingLeft
-moved d (Refused why) = Refused why
-
-moved-left : (l : List ℕ) (d p : ℕ) → readLeft l (d + p) ≡ moved d (readLeft l p)
-unfolding readLeft readMarked readFields moved
-moved-left [] d p = refl
-moved-left (a ∷ []) d p = refl
-moved-left (a ∷ b ∷ left) d p = by-mark (markedAmong kinds a b)
-  where
-    by-length : (k : Kind) (r : Record) (t : Bool) → cond t (Refused CutShort) (Found r (d + p + size k)) ≡ moved d (cond t (Refused CutShort) (Found r (p + size k)))
-    by-length k r true = refl
-    by-length k r false = ap (Found r) (add-assoc d p (size k))
-
-    by-mark : (m : Option Kind) → readMarked m left (d + p) ≡ moved d (readMarked m left p)
-    by-mark none = refl
-    by-mark (some k) = by-length k _ (ltb (length left) (total (widths k)))
-
-moved-at : (before bytes : List ℕ) (p : ℕ) → readAt (before ++ bytes) (length before + p) ≡ moved (length before) (readAt bytes p)
-unfolding readAt
-moved-at before bytes p = rw (drop-append-add before bytes p) (moved-left (drop p bytes) (length before) p)
 
 -- ---- the listing from a place on
 
@@ -135,16 +107,13 @@ module _ (part after : List ℕ) (h : AreBytes part) where
   rest : Bridge → ℕ → ℕ → List ℕ
   rest b n p = listingAt b n (part ++ after) p
 
-  found-there : (p : ℕ) (r : Record) (next : ℕ) → readAt part p ≡ Found r next → readAt (part ++ after) p ≡ Found r next
-  found-there p r next e = simp zero-add at (found-in-the-whole [] part after h p r next e)
-
   turn : (b : Bridge) (n p : ℕ) (x : Reading) (t : Bool) → readAt part p ≡ x → (go : Record → ℕ → Part)
       → ((r : Record) (next : ℕ) → rest (afterCall b (callOf r)) (n + 1) next ≡ go r next .text ++ rest (go r next .bridge) (go r next .count) (go r next .place))
       → let P = goingOn x t (stopsAt part b n p) (λ r next. onto (recordLine b n r) (go r next)) in
       rest b n p ≡ P .text ++ rest (P .bridge) (P .count) (P .place)
   unfolding goingOn stopsAt onto rest
   turn b n p (Found r next) true e go ih =
-      record-first b n (part ++ after) p r next (found-there p r next e)
+      record-first b n (part ++ after) p r next (found-there part after h p r next e)
       ∙ ap (λ (l : List ℕ). recordLine b n r ++ l) (ih r next)
       ∙ sym (append-assoc (recordLine b n r) (go r next .text) (rest (go r next .bridge) (go r next .count) (go r next .place)))
   turn b n p (Found r next) false e go ih = refl

@@ -1,18 +1,18 @@
 -- Laws of a listing under way: it starts, a record's line is put and it goes on, and it stops. Assumes nothing.
-use mathlib.Core.Path.{_≡_, refl, sym, ap, _∙_, subst}
+use mathlib.Core.Path.{_≡_, refl, sym, ap, _∙_}
 use mathlib.Core.List.{List, [], _∷_, _++_, append-nil, append-assoc}
 use Prim.Native.Nat.{ℕ, zero, suc, _+_, _-_, _≤_, _<_}
 use native.Mathlib.Nat.{sub-zero}
 use native.Mathlib.Omega.{arith}
-use lib.ListN.{length, getD, drop, length-append, length-drop}
+use lib.ListN.{length, getD}
 use lib.Seq.{sets}
-use Rattle.tablefile.specs.Layout.{mark, kindOf, size}
+use Rattle.tablefile.specs.Layout.{mark, kindOf}
 use Rattle.reader.specs.Reader.{readAt}
 use Rattle.tablefile.specs.declared.Record.{Record}
 use Rattle.tablefile.specs.declared.Reading.{Reading}
 use Rattle.tablefile.specs.declared.Reading.the-variants.{Found}
 use Rattle.tablefile.proofs.Fields.{mark-width}
-use Rattle.reader.proofs.OneRecord.{Front, whole, front}
+use Rattle.reader.proofs.Further.{found-further}
 use Rattle.bridge.specs.History.{Reply, reply, afterCall}
 use Rattle.bridge.specs.declared.Bridge.{Bridge}
 use Rattle.listing_text.specs.Lines.{valuesOf, lineOf}
@@ -27,18 +27,6 @@ use Rattle.listing_text.proofs.Texts.{put-then, put-length, line-short}
 use Rattle.listing_text.proofs.Placing.{line-is-put}
 use Rattle.listing_part.proofs.Stepping.{Going, ended, goes-on, mark-letters}
 use Rattle.listing_part.proofs.Calls.{reply-small}
-
--- ---- places
-
-further : (bytes : List ℕ) (p : ℕ) {r : Record} {next : ℕ} → Front (drop p bytes) p (Found r next) → (p < next) × (next ≤ length bytes)
-unfolding size
-further bytes p (whole k left is long) =
-    (omega arith, omega (arith, length-drop p bytes, ap length is, length-append (mark k) left, mark-width k))
-
--- a record that was found ends at a later place, within the bytes
-pub found-further : (bytes : List ℕ) (p : ℕ) (r : Record) (next : ℕ) → readAt bytes p ≡ Found r next → (p < next) × (next ≤ length bytes)
-unfolding readAt
-found-further bytes p r next e = further bytes p (subst (Front (drop p bytes) p) e (front (drop p bytes) p))
 
 -- ---- one record
 

@@ -1,13 +1,13 @@
 -- Laws of a turn over lent buffers: what its calls leave is what its definition says. Assumes nothing.
 use mathlib.Core.Path.{_≡_, refl, sym, ap, _∙_, subst}
 use mathlib.Core.Bool.{Bool, true, false, cond}
-use mathlib.Core.List.{List, [], _∷_, _++_, append-nil}
+use mathlib.Core.List.{List, [], _++_, append-nil}
 use Prim.Native.Nat.{ℕ, _+_, _-_, _%_, _^_, _≤_, _<_}
 use Rattle.quantity.proofs.Booleans.{cond-true, cond-false}
-use Rattle.tablefile.specs.Layout.{ST, size}
-use native.Mathlib.Nat.{zero-add, add-zero}
+use Rattle.tablefile.specs.Layout.{size}
+use native.Mathlib.Nat.{zero-add}
 use native.Mathlib.Omega.{arith}
-use lib.ListN.{length, take, drop, set, length-append}
+use lib.ListN.{length, take, drop, length-append}
 use lib.Seq.{sets, length-sets, length-take-le}
 use Rattle.text.specs.Places.{Placed}
 use Rattle.text.proofs.Putting.{sets-append}
@@ -16,19 +16,18 @@ use Rattle.tablefile.specs.declared.Reading.{Reading}
 use Rattle.bridge.specs.declared.Bridge.{Bridge}
 use Rattle.listing_text.specs.Lines.{ending}
 use Rattle.listing_text.specs.Places.{mayEnd, putWhere, endPut}
-use Rattle.listing_part.specs.Parts.{Part, partOf, ListedPart, listedOf, partPut, partListed}
+use Rattle.listing_part.specs.Parts.{partOf, ListedPart, listedOf, partPut, partListed}
 use Rattle.listing_part.specs.declared.Listed.{Listed}
 use Rattle.listing_part.proofs.Promises.{part-within}
 use Rattle.intake.specs.Holding.{Within, isWithin, heldIn, Kept, keptFor}
 use Rattle.intake.specs.declared.Held.{Held}
-use Rattle.intake.specs.declared.Told.{Told}
 use Rattle.intake.specs.declared.Next.{Next}
 use Rattle.intake.specs.declared.Next.the-variants.{GoesOn, Reads, Ends, Fails}
 use Rattle.listing_text.proofs.Promises.{end-within}
 use Rattle.intake.proofs.Promises.{within-is, kept-within, kept-same, held-after-use, room-to-read}
 use Rattle.listing_turn.specs.Promises.{TurnWithin, TurnLeaves, TurnMakesRoom}
 use Rattle.intake.proofs.Keeping.{length-part}
-use Rattle.listing_turn.specs.Turns.{nextOf, endIf, endPutIf, Reached, turnOf, listTurn, reachedBy, leftHeld, Made, madeOf, heldListed, nothingListed, turnMade}
+use Rattle.listing_turn.specs.Turns.{nextOf, endIf, endPutIf, turnOf, listTurn, reachedBy, leftHeld, Made, madeOf, heldListed, nothingListed, turnMade}
 use Rattle.listing_turn.specs.declared.Standing.{Standing}
 use Rattle.listing_turn.specs.declared.Turned.{Turned}
 use Rattle.listing_turn.proofs.Nexts.{end-may}

@@ -1,33 +1,28 @@
 -- Laws of a turn that moves on: a line uses bytes, and where nothing was put there was room. Assumes nothing.
-use mathlib.Core.Path.{_≡_, refl, sym, ap, _∙_, subst}
+use mathlib.Core.Path.{_≡_, refl, sym, ap}
 use mathlib.Core.Logic.{_⊎_, inl, inr}
 use mathlib.Core.Bool.{Bool, true, false, cond, _&&_}
-use mathlib.Core.List.{List, []}
+use mathlib.Core.List.{List}
 use Prim.Native.Nat.{ℕ, zero, suc, _+_, _-_, _≤_, _<_}
-use native.Mathlib.Nat.{sub-zero}
 use native.Mathlib.Omega.{arith}
 use borrow.Author.Tests.{ltb-true, ltb-false, lt-ltb, le-leb, eqb-true}
 use lib.Dec.{ltb, leb, eqb}
 use lib.ListN.{length, drop, length-drop}
 use Rattle.quantity.specs.Numbers.{numberOf}
-use Rattle.quantity.specs.declared.Refusal.{Refusal}
 use Rattle.quantity.specs.declared.Refusal.the-variants.{CutShort}
 use Rattle.tablefile.specs.Answers.{nothingLeft, readingNumber}
-use Rattle.tablefile.specs.BigEndian.{AreBytes}
-use Rattle.tablefile.specs.Layout.{ST, total, size}
+use Rattle.tablefile.specs.Layout.{ST, size}
 use Rattle.tablefile.specs.declared.Record.{Record}
 use Rattle.tablefile.specs.declared.Reading.{Reading}
 use Rattle.tablefile.specs.declared.Reading.the-variants.{Found, NothingLeft, Refused}
-use Rattle.reader.specs.Reader.{readAt, readLeft}
-use Rattle.reader.proofs.Further.{cut-is-short, nothing-is-left}
+use Rattle.reader.specs.Reader.{readAt}
+use Rattle.reader.proofs.Further.{found-further, cut-is-short, end-is-short}
 use Rattle.bridge.specs.History.{afterCall}
 use Rattle.bridge.specs.declared.Bridge.{Bridge}
 use Rattle.listing_text.specs.Places.{lineRoom, endRoom, mostLines, mayEnd}
 use Rattle.listing_part.specs.Records.{callOf, recordLine}
 use Rattle.listing_part.specs.Parts.{Part, onto, mayGoOn, goingOn, stopsAt, partFor, partOf}
-use Rattle.listing_part.proofs.Underway.{found-further}
 use Rattle.listing_part.proofs.Promises.{as-far-as-it-may, part-within, part-reads}
-use Rattle.intake.specs.Promises.{Moves}
 use Rattle.intake.specs.declared.Told.{Told}
 use Rattle.intake.specs.declared.Told.the-variants.{More, Ended, Failed}
 use Rattle.intake.specs.declared.Next.{Next}
@@ -212,18 +207,18 @@ unended-reads n e = go (ltb n mostLines) e
     go false q = omega (arith, q)
 
 -- by what the reader gives where the lines stop
-short-by : (l : List ℕ) (p : ℕ) (r : Reading) → readLeft l p ≡ r → (told : Told) (n at room : ℕ) → tag (nextOf r told n at room) ≡ 1 → length l < size ST
-unfolding nextOf total size
-short-by l p (Found r next) q told n at room e = absurd (unended-reads n e)
-short-by l p NothingLeft q told n at room e = omega (arith, nothing-is-left l p q)
-short-by l p (Refused why) q told n at room e = go (eqb (numberOf why) (numberOf CutShort)) refl e
+short-by : (bytes : List ℕ) (p : ℕ) (r : Reading) → readAt bytes p ≡ r → (told : Told) (n at room : ℕ) → tag (nextOf r told n at room) ≡ 1 → length (drop p bytes) < size ST
+unfolding nextOf
+short-by bytes p (Found r next) q told n at room e = absurd (unended-reads n e)
+short-by bytes p NothingLeft q told n at room e = end-is-short bytes p q
+short-by bytes p (Refused why) q told n at room e = go (eqb (numberOf why) (numberOf CutShort)) refl e
   where
-    go : (t : Bool) → eqb (numberOf why) (numberOf CutShort) ≡ t → tag (cond t (atEdge told n at room) (closing n at room)) ≡ 1 → length l < size ST
-    go true h z = cut-is-short why (eqb-true (numberOf why) (numberOf CutShort) h) l p q
+    go : (t : Bool) → eqb (numberOf why) (numberOf CutShort) ≡ t → tag (cond t (atEdge told n at room) (closing n at room)) ≡ 1 → length (drop p bytes) < size ST
+    go true h z = cut-is-short bytes p why (eqb-true (numberOf why) (numberOf CutShort) h) q
     go false h z = absurd (closing-reads n at room z)
 
 pub kept-is-short : KeptIsShort
-unfolding listTurn turnOf readAt partOf
+unfolding listTurn turnOf partOf
 kept-is-short room s held said e =
     let Q = partOf held room (s .bridge) (s .count) in
-    short-by (drop (Q .place) held) (Q .place) (Q .reading) (sym (part-reads (suc (length held)) held room (s .bridge) (s .count) 0)) said (Q .count) (length (Q .text)) room (ap tag e)
+    short-by held (Q .place) (Q .reading) (sym (part-reads (suc (length held)) held room (s .bridge) (s .count) 0)) said (Q .count) (length (Q .text)) room (ap tag e)

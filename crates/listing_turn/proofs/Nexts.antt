@@ -2,12 +2,11 @@
 use mathlib.Core.Path.{_≡_, refl, sym, ap, _∙_}
 use mathlib.Core.Bool.{Bool, true, false, cond, _&&_}
 use Prim.Native.Nat.{ℕ, _+_, _≤_, _<_}
-use native.Mathlib.Omega.{arith}
 use borrow.Author.Tests.{lt-ltb, le-ltb, le-leb, lt-leb, eq-eqb, ne-eqb}
 use lib.Dec.{ltb, leb, eqb}
 use Rattle.listing_text.specs.Places.{mostLines, mayEnd}
 use Rattle.intake.specs.declared.Next.{Next}
-use Rattle.intake.specs.declared.Next.the-variants.{GoesOn, Reads, Ends, Fails}
+use Rattle.intake.specs.declared.Next.the-variants.{GoesOn, Ends, Fails}
 use Rattle.quantity.specs.Numbers.{numberOf}
 use Rattle.quantity.specs.declared.Refusal.{Refusal}
 use Rattle.quantity.specs.declared.Refusal.the-variants.{CutShort}

@@ -1,8 +1,8 @@
 -- The promises of a session of turns, proved: each theorem has the name of its statement in specs/Promises. Assumes nothing.
-use mathlib.Core.Path.{_≡_, refl, sym, ap, _∙_, subst}
-use mathlib.Core.Bool.{Bool, true, false, cond, _&&_}
-use mathlib.Core.List.{List, [], _∷_, _++_, append-nil}
-use Prim.Native.Nat.{ℕ, _+_, _≤_, _<_}
+use mathlib.Core.Path.{_≡_, refl, sym, ap, _∙_}
+use mathlib.Core.Bool.{Bool, true, false, cond}
+use mathlib.Core.List.{List, [], _++_, append-nil}
+use Prim.Native.Nat.{ℕ, _+_, _≤_}
 use native.Mathlib.Omega.{arith}
 use borrow.Author.Tests.{eqb-false}
 use lib.Dec.{eqb}
@@ -17,7 +17,7 @@ use Rattle.tablefile.specs.declared.Reading.{Reading}
 use Rattle.tablefile.specs.declared.Reading.the-variants.{Found, NothingLeft, Refused}
 use Rattle.listing_text.specs.Lines.{ending}
 use Rattle.listing_part.specs.Listing.{listingFrom}
-use Rattle.listing_part.specs.Parts.{Part, partOf}
+use Rattle.listing_part.specs.Parts.{partOf}
 use Rattle.listing_part.proofs.Promises.{listing-in-parts, listing-to-its-end}
 use Prim.{Unit, tt}
 use Rattle.intake.specs.Promises.{Given, following}

@@ -1,22 +1,14 @@
 -- Where the program stands: after a turn, and after a reading. Assumes nothing.
-use mathlib.Core.Path.{_≡_, refl, sym, ap, _∙_, subst}
+use mathlib.Core.Path.{_≡_, sym, ap, _∙_}
 use mathlib.Core.List.{List, []}
-use Prim.Native.Nat.{ℕ, suc, _-_}
-use native.Mathlib.Omega.{arith}
-use lib.IntN.{ℤ}
-use lib.ListN.{length, take, drop}
+use Prim.Native.Nat.{ℕ, _-_}
+use lib.ListN.{length}
 use Rattle.intake.specs.Holding.{Within, nothingHeld, heldIn}
-use Rattle.intake.specs.Sessions.{Turn, at-first, MayTurn}
-use Rattle.intake.specs.declared.Held.{Held}
-use Rattle.intake.specs.declared.Told.{Told}
-use Rattle.intake.specs.declared.Told.the-variants.{More}
-use Rattle.intake.specs.declared.Next.{Next}
-use Rattle.intake.specs.declared.Next.the-variants.{GoesOn, Reads, Ends, Fails}
+use Rattle.intake.specs.Sessions.{Turn, at-first}
 use Rattle.intake.proofs.Promises as sessions
-use Rattle.listing_turn.specs.Turns.{Reached, start, turnOf, listTurn, begunListing, reachedBy, leftHeld, withHeld, Made, madeOf, heldListed, turnMade}
-use Rattle.listing_turn.specs.Promises.{MayList, Listed, BeginStands, TurnStands, ReadingStands}
+use Rattle.listing_turn.specs.Turns.{Reached, start, listTurn, begunListing, reachedBy, leftHeld, withHeld, Made, madeOf, heldListed, turnMade}
+use Rattle.listing_turn.specs.Promises.{MayList, BeginStands, TurnStands, ReadingStands}
 use Rattle.listing_turn.specs.declared.Standing.{Standing}
-use Rattle.listing_turn.specs.declared.Turned.{Turned}
 use Rattle.listing_turn.proofs.Making.{listed, turn-leaves}
 
 -- the turn over lent buffers is the turn over lists

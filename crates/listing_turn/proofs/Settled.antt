@@ -1,31 +1,26 @@
 -- Laws of what further bytes do not change: two bytes that are no known mark end a listing, whatever follows them. Assumes nothing.
 use mathlib.Core.Path.{_≡_, refl, sym, ap, _∙_, subst}
-use mathlib.Core.Bool.{Bool, true, false, cond, _&&_}
-use mathlib.Core.Option.{Option, none, some}
-use mathlib.Core.List.{List, [], _∷_, _++_}
-use Prim.Native.Nat.{ℕ, zero, suc, _+_, _-_, _≤_}
+use mathlib.Core.Bool.{Bool}
+use mathlib.Core.List.{List, _++_}
+use Prim.Native.Nat.{ℕ, suc, _+_, _-_, _≤_}
 use native.Mathlib.Omega.{arith}
-use lib.Dec.{ltb}
 use lib.ListN.{length, drop}
 use Rattle.quantity.specs.Numbers.{numberOf}
 use Rattle.quantity.specs.declared.Refusal.{Refusal}
-use Rattle.quantity.specs.declared.Refusal.the-variants.{CutShort, UnknownMark}
+use Rattle.quantity.specs.declared.Refusal.the-variants.{CutShort}
 use Rattle.quantity.proofs.Refusals.{refusal-number}
 use Rattle.tablefile.specs.Answers.{nothingLeft, readingNumber}
 use Rattle.tablefile.specs.BigEndian.{AreBytes}
-use Rattle.tablefile.specs.Layout.{Kind, kinds, widths, total, size, recordOf, fieldNumbers}
 use Rattle.tablefile.specs.declared.Record.{Record}
 use Rattle.tablefile.specs.declared.Reading.{Reading}
 use Rattle.tablefile.specs.declared.Reading.the-variants.{Found, NothingLeft, Refused}
 use Rattle.tablefile.proofs.Numbers.{bytes-drop}
 use Rattle.intake.proofs.Bytes.{bytes-join}
-use Rattle.reader.specs.Reader.{markedAmong, readFields, readMarked, readLeft, readAt}
-use Rattle.bridge.specs.History.{afterCall}
+use Rattle.reader.specs.Reader.{readLeft, readAt}
 use Rattle.bridge.specs.declared.Bridge.{Bridge}
 use Rattle.listing_text.specs.Lines.{ending}
-use Rattle.listing_part.specs.Records.{callOf, recordLine}
 use Rattle.listing_part.specs.Listing.{listingFrom}
-use Rattle.listing_part.specs.Parts.{Part, onto, mayGoOn, goingOn, stopsAt, partFor, partOf}
+use Rattle.listing_part.specs.Parts.{Part, mayGoOn, goingOn, stopsAt, partFor, partOf}
 use Rattle.listing_part.proofs.Promises.{listing-in-parts, listing-to-its-end, part-reads}
 use Rattle.reader.proofs.Further.{refused-for-good}
 

@@ -6,7 +6,7 @@ use lib.IntN.{ℤ}
 use mathlib.Core.Bool.{Bool}
 use lib.ListN.{length, take, drop}
 use mathlib.Core.Path.{_≡_}
-use mathlib.Core.List.{List, [], _++_}
+use mathlib.Core.List.{List, _++_}
 use Rattle.tablefile.specs.BigEndian.{AreBytes}
 use Rattle.tablefile.specs.Layout.{ST, size}
 use Rattle.listing_text.specs.Places.{lineRoom, endRoom, mostLines}

@@ -1,8 +1,8 @@
 -- What a replay writes, proved: each theorem has the name of its statement in specs/Replaying. Assumes nothing.
-use mathlib.Core.Path.{_≡_, refl, sym, ap, _∙_}
-use mathlib.Core.Bool.{Bool, true, cond}
+use mathlib.Core.Path.{_≡_, sym, ap, _∙_}
+use mathlib.Core.Bool.{true}
 use mathlib.Core.List.{List, []}
-use Prim.Native.Nat.{ℕ, _+_}
+use Prim.Native.Nat.{ℕ}
 use Rattle.quantity.proofs.Booleans.{cond-true}
 use lib.ListN.{take}
 use Rattle.places.specs.Queue.{nothing}
@@ -18,7 +18,7 @@ use Rattle.replay_turn.proofs.Promises.{gathered-from-all-readings}
 use Rattle.replay_turn.proofs.Protocol.{gathered-is-the-file}
 use Rattle.replay_account.specs.Account.{accountOf, accountText}
 use Rattle.replay_account.proofs.Promises.{account-in-parts}
-use Rattle.replay.specs.Replaying.{places, budget, runOf, toldOf, replayedBy, replayText, ReplayOfAllReadings, Replayed, AccountIsTheReplay}
+use Rattle.replay.specs.Replaying.{places, budget, runOf, toldOf, replayedBy, replayText, ReplayOfAllReadings, AccountIsTheReplay}
 
 -- what was gathered as a whole is run, and its account told
 whole-is-told : (r f : ℕ) (answers picked moments : List ℕ) (g : Final) → g .whole ≡ true → toldOf (runOf r f answers picked moments (g .yard)) ≡ replayedBy r f answers picked moments g

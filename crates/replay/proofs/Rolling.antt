@@ -7,15 +7,14 @@ use native.Mathlib.Omega.{arith}
 use lib.ListN.{length}
 use Rattle.intake.specs.Holding.{Within, nothingHeld, cameIn}
 use Rattle.intake.specs.declared.Held.{Held}
-use Rattle.intake.specs.declared.Next.the-variants.{GoesOn, Reads, Ends}
+use Rattle.intake.specs.declared.Next.the-variants.{GoesOn, Reads}
 use Rattle.intake.proofs.Promises.{reading-within}
 use Rattle.console.specs.Answers.{onlyWaits, readBehind}
 use Rattle.console.specs.declared.Came.{Came}
 use Rattle.console.proofs.Answers.{read-gave}
 use Rattle.replay_text.specs.Lines.{lineRoom}
 use Rattle.replay_turn.specs.Turns.{begunReading, Made, turnMade}
-use Rattle.replay_turn.specs.Promises.{StaysWithin}
-use Rattle.replay_turn.specs.Protocol.{Places, MayGather, HasGathered, Open, withHeld}
+use Rattle.replay_turn.specs.Protocol.{Places, MayGather, Open, withHeld}
 use Rattle.replay_turn.specs.declared.Standing.{Standing}
 use Rattle.replay_turn.specs.declared.Turned.{Turned}
 use Rattle.replay_turn.proofs.Promises.{turn-within}

@@ -3,11 +3,10 @@ use mathlib.Core.Path.{_≡_, refl, sym, ap, _∙_, subst}
 use mathlib.Core.List.{List}
 use Prim.Native.Nat.{ℕ, suc, _+_, _≤_}
 use native.Mathlib.Numerals.{add-one}
-use native.Mathlib.Omega.{arith}
 use lib.ListN.{length, take, drop}
 use lib.Seq.{length-take-le, length-sets}
 use Rattle.tablefile.specs.BigEndian.{AreBytes}
-use Rattle.intake.specs.declared.Next.the-variants.{GoesOn, Ends}
+use Rattle.intake.specs.declared.Next.the-variants.{GoesOn}
 use Rattle.replay_text.specs.Lines.{textOf, lineRoom}
 use Rattle.line.specs.declared.Ran.{Ran}
 use Rattle.replay_account.specs.declared.Account.{Account}

@@ -1,22 +1,21 @@
 -- Laws of gathering a file in parts: further bytes in front move the places, and further bytes behind change nothing that was found. Assumes nothing.
 use mathlib.Core.Path.{_≡_, refl, sym, ap, _∙_, subst}
-use mathlib.Core.Bool.{Bool, true, false, cond}
-use mathlib.Core.List.{List, [], _∷_, _++_}
-use mathlib.Core.Option.{Option, none, some}
+use mathlib.Core.Bool.{Bool, true, false}
+use mathlib.Core.List.{List, [], _++_}
 use Prim.Native.Nat.{ℕ, zero, suc, _+_, _≤_, _<_}
 use native.Mathlib.Nat.{add-assoc, zero-add}
 use native.Mathlib.Omega.{arith}
-use lib.Dec.{ltb}
 use lib.ListN.{length, drop}
 use lib.Seq.{drop-append-add, drop-append-le}
 use Rattle.quantity.specs.declared.Refusal.the-variants.{UnknownMark, CutShort}
 use Rattle.tablefile.specs.BigEndian.{AreBytes}
-use Rattle.tablefile.specs.Layout.{Kind, kinds, widths, total, size, recordOf, fieldNumbers}
-use Rattle.reader.specs.Reader.{markedAmong, readFields, readMarked, readLeft, readAt}
+use Rattle.tablefile.specs.Layout.{widths, size, recordOf, fieldNumbers}
+use Rattle.reader.specs.Reader.{readLeft, readAt}
 use Rattle.tablefile.specs.declared.Record.{Record}
 use Rattle.tablefile.specs.declared.Record.the-variants as rec
 use Rattle.tablefile.specs.declared.Reading.{Reading}
 use Rattle.tablefile.specs.declared.Reading.the-variants.{Found, NothingLeft, Refused}
+use Rattle.reader.proofs.Further as reading
 use Rattle.reader.proofs.OneRecord.{Front, empty, cut, strange, whole, front, found-in-longer}
 use Rattle.bridge.specs.declared.Bridge.{Bridge}
 use Rattle.calls.specs.declared.SetUp.{SetUp}
@@ -31,35 +30,11 @@ use Rattle.replay_gathering.proofs.Turns.{Ahead, ends, sets, frame, tas
 
 -- ---- further bytes in front
 
--- a reading and a task, so many places on
-moved-reading : ℕ → Reading → Reading
-moved-reading n (Found r next) = Found r (n + next)
-moved-reading n NothingLeft = NothingLeft
-moved-reading n (Refused why) = Refused why
-
+-- a task, so many places on
 moved-task : ℕ → Task → Task
 moved-task n (Ends why) = Ends why
 moved-task n (Sets w next) = Sets w (n + next)
 moved-task n (Frame i o A next) = Frame i o A (n + next)
-
-fields-moved : (n : ℕ) (k : Kind) (l : List ℕ) (p : ℕ) → readFields k l (n + p) ≡ moved-reading n (readFields k l p)
-unfolding readFields moved-reading
-fields-moved n k l p = go (ltb (length l) (total (widths k)))
-  where
-    go : (t : Bool) → cond t (Refused CutShort) (Found (recordOf k (fieldNumbers (widths k) l)) (n + p + size k)) ≡ moved-reading n (cond t (Refused CutShort) (Found (recordOf k (fieldNumbers (widths k) l)) (p + size k)))
-    go true = refl
-    go false = rw (add-assoc n p (size k))
-
-mark-moved : (n : ℕ) (m : Option Kind) (l : List ℕ) (p : ℕ) → readMarked m l (n + p) ≡ moved-reading n (readMarked m l p)
-unfolding readMarked moved-reading
-mark-moved n none l p = refl
-mark-moved n (some k) l p = fields-moved n k l p
-
-left-moved : (n : ℕ) (l : List ℕ) (p : ℕ) → readLeft l (n + p) ≡ moved-reading n (readLeft l p)
-unfolding readLeft moved-reading
-left-moved n [] p = refl
-left-moved n (a ∷ []) p = refl
-left-moved n (a ∷ b ∷ l) p = mark-moved n (markedAmong kinds a b) l p
 
 task-of-moved : (n : ℕ) (room : Bool) (r : Record) (next : ℕ) → taskOf room r (n + next) ≡ moved-task n (taskOf room r next)
 unfolding taskOf moved-task
@@ -69,8 +44,8 @@ task-of-moved n room (rec.Stream i k r u) next = refl
 task-of-moved n true (rec.Frame i o A) next = refl
 task-of-moved n false (rec.Frame i o A) next = refl
 
-task-for-moved : (n : ℕ) (room : Bool) (x : Reading) → taskFor room (moved-reading n x) ≡ moved-task n (taskFor room x)
-unfolding taskFor moved-reading moved-task
+task-for-moved : (n : ℕ) (room : Bool) (x : Reading) → taskFor room (reading.moved n x) ≡ moved-task n (taskFor room x)
+unfolding taskFor reading.moved moved-task
 task-for-moved n room (Found r next) = task-of-moved n room r next
 task-for-moved n room NothingLeft = refl
 task-for-moved n room (Refused why) = refl
@@ -83,7 +58,7 @@ module _ (before bytes : List ℕ) (m : ℕ) where
   unfolding taskAt readAt roomIn moved n
   task-moved s =
       ap (λ (l : List ℕ). taskFor (roomIn s) (readLeft l (length before + s .at))) (drop-append-add before bytes (s .at))
-      ∙ ap (taskFor (roomIn s)) (left-moved (length before) (drop (s .at) bytes) (s .at))
+      ∙ ap (taskFor (roomIn s)) (reading.moved-left (drop (s .at) bytes) (length before) (s .at))
       ∙ task-for-moved (length before) (roomIn s) (readLeft (drop (s .at) bytes) (s .at))
 
   after-moved : (a : SetUp) (x : State) (f g : State → Outcome) → f (moved n m x) ≡ after n m (g x) → afterSetUp a (moved n m x) f ≡ after n m (afterSetUp a x g)
@@ -146,26 +121,6 @@ unfolding Settled
 strange-settled why e w =
     wanted w (λ q. let z : _≡_ {A = ℕ} 0 1 = cc in omega arith) (λ q. let z : _≡_ {A = ℕ} 0 1 = cc in omega arith)
 
--- two bytes that are no known mark are none, whatever follows
-strange-fields : (k : Kind) (l : List ℕ) (p : ℕ) → readFields k l p ≡ Refused UnknownMark → ⊥
-unfolding readFields
-strange-fields k l p e = go (ltb (length l) (total (widths k))) e
-  where
-    go : (t : Bool) → cond t (Refused CutShort) (Found (recordOf k (fieldNumbers (widths k) l)) (p + size k)) ≡ Refused UnknownMark → ⊥
-    go true q = let z : _≡_ {A = ℕ} 0 1 = cc in omega arith
-    go false q = let z : _≡_ {A = ℕ} 0 1 = cc in omega arith
-
-strange-mark : (m : Option Kind) (l k : List ℕ) (p : ℕ) → readMarked m l p ≡ Refused UnknownMark → readMarked m k p ≡ Refused UnknownMark
-unfolding readMarked
-strange-mark none l k p e = refl
-strange-mark (some x) l k p e = absurd (strange-fields x l p e)
-
-strange-longer : (l rest : List ℕ) (p : ℕ) → readLeft l p ≡ Refused UnknownMark → readLeft (l ++ rest) p ≡ Refused UnknownMark
-unfolding readLeft
-strange-longer [] rest p e = let z : _≡_ {A = ℕ} 0 1 = cc in absurd (omega arith)
-strange-longer (a ∷ []) rest p e = let z : _≡_ {A = ℕ} 0 1 = cc in absurd (omega arith)
-strange-longer (a ∷ b ∷ l) rest p e = strange-mark (markedAmong kinds a b) l (l ++ rest) p e
-
 -- the state in which a gathering ended
 unfoldable pub resumed : Outcome → State
 resumed o = record { at = o .gathered .at; records = o .gathered .records; count = o .gathered .count; bridge = o .gathered .bridge; arrivals = o .arrivals; ids = o .ids; octets = o .octets }
@@ -189,7 +144,7 @@ module _ (part rest : List ℕ) (bytes : AreBytes part) where
   reading-fate s i x e strange =
       found (Ends (end.Unreadable UnknownMark))
       (ap (λ (l : List ℕ). taskFor (roomIn s) (readLeft l (s .at))) (drop-append-le (s .at) part rest i)
-      ∙ ap (taskFor (roomIn s)) (strange-longer (drop (s .at) part) rest (s .at) e))
+      ∙ ap (taskFor (roomIn s)) (reading.refused-for-good UnknownMark (λ z. omega (arith, z)) (drop (s .at) part) rest (s .at) (s .at) e))
       strange-settled
   reading-fate s i x e (whole k left is long) =
       let r = recordOf k (fieldNumbers (widths k) left) in

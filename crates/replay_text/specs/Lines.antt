@@ -2,7 +2,7 @@
 -- A line is its parts one after the other; its numbers are separated by single spaces, and a line end stands at its end.
 use Prim.Native.Nat.{ℕ, _+_}
 use mathlib.Core.Bool.{cond}
-use mathlib.Core.List.{List, [], _∷_, _++_}
+use mathlib.Core.List.{List, [], _∷_}
 use lib.Dec.{leb}
 use lib.ListN.{length}
 use Rattle.text.specs.Decimal.{decimal}

@@ -3,7 +3,6 @@ pub mod Halts
 pub mod Ready
 pub mod Turning
 pub mod Making
-pub mod Reading
 pub mod Meaning
 pub mod Nexts
 pub mod Right

@@ -40,7 +40,7 @@ use Rattle.replay_gathering.proofs.Turns.{unfolds}
 use Rattle.replay_gathering.proofs.Parts.{resumed}
 use Rattle.replay_turn.specs.Gathered.{Yard, withBridge, withFrame, frames, Final, endsWith, answerNote, endedAt, setUpMade, taken, recordsTaken, gatheredOf}
 use Rattle.replay_turn.proofs.Places.{fewest, roomy, place-left, one-behind}
-use Rattle.replay_turn.proofs.Reading.{moved, moved-at, found-further, found-there}
+use Rattle.reader.proofs.Further.{moved, moved-at, found-further, found-there}
 
 -- ---- from a place on
 

@@ -27,7 +27,7 @@ use Rattle.replay_turn.proofs.Ready.{fitting, are-fit, can-count}
 use Rattle.replay_turn.proofs.Halts.{Halted, says-nothing-left, says-unreadable, says-later}
 use Rattle.replay_turn.proofs.Turning.{turned, by-count, gathering-halts, Keeping, turn-keeps}
 use Rattle.replay_turn.proofs.Making.{held-length, fitting-turn, unfit-turn}
-use Rattle.replay_turn.proofs.Reading.{cut-is-short, end-is-short}
+use Rattle.reader.proofs.Further.{cut-is-short, end-is-short}
 use Rattle.replay_turn.proofs.Nexts.{differ, closed, Wanting, no-byte, cut-record, wanting, failing, AfterSetUp, after-set-up, going}
 use Rattle.replay_turn.proofs.Right.{on-right, last-right}
 

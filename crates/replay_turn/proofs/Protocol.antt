@@ -1,21 +1,20 @@
 -- Where the program stands in its reading, proved: each theorem has the name of its statement in specs/Protocol. Assumes nothing.
-use mathlib.Core.Path.{_≡_, refl, sym, ap, _∙_, subst}
+use mathlib.Core.Path.{_≡_, refl, sym, ap, _∙_}
 use mathlib.Core.Bool.{Bool, true, false, cond}
 use mathlib.Core.List.{List, []}
 use Prim.Native.Nat.{ℕ, _-_, min}
 use native.Mathlib.Omega.{arith}
-use lib.ListN.{length, take, drop}
-use Rattle.tablefile.specs.BigEndian.{AreBytes}
+use lib.ListN.{length}
 use Rattle.intake.specs.Holding.{nothingHeld, heldIn}
 use Rattle.intake.specs.Sessions.{at-first, Turn}
 use Rattle.intake.specs.declared.Next.the-variants.{Fails}
 use Rattle.intake.specs.Promises.{Given}
 use Rattle.intake.proofs.Promises as sessions
-use Rattle.replay_turn.specs.Gathered.{Yard, freshYard, Final, gatheredOn, gatheredFrom}
-use Rattle.replay_turn.specs.Turns.{Reached, readTurn, placesIn, yardOf, finalOf, begunReading, reachedBy, leftHeld, Made, madeOf, madeBy, buffersFit, turnMade}
+use Rattle.replay_turn.specs.Gathered.{freshYard, Final, gatheredFrom}
+use Rattle.replay_turn.specs.Turns.{Reached, readTurn, placesIn, yardOf, finalOf, begunReading, reachedBy, leftHeld, madeOf, madeBy, buffersFit, turnMade}
 use Rattle.replay_turn.specs.declared.Standing.{Standing}
 use Rattle.replay_turn.specs.Promises.{readingOn, turnBy}
-use Rattle.replay_turn.specs.Protocol.{Places, Began, from, MayGather, MayReadOn, HasGathered, Open, BeginStands, TurnStands, withHeld, ReadingStands, GatheredIsTheFile}
+use Rattle.replay_turn.specs.Protocol.{Began, from, BeginStands, TurnStands, withHeld, ReadingStands, GatheredIsTheFile}
 use Rattle.replay_turn.proofs.Promises.{turn-is-right, turn-leaves, turn-is-made}
 
 -- a turn leaves what the last reading said

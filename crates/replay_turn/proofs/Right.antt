@@ -34,7 +34,7 @@ use Rattle.replay_turn.specs.Turns.{nextOf, unreadNote, noteOf, isEnd, w
 use Rattle.replay_turn.specs.Promises.{readingOn}
 use Rattle.replay_turn.proofs.Places.{fewest, place-left}
 use Rattle.replay_turn.proofs.Halts.{Halted, lists-full, says-nothing-left, says-unreadable}
-use Rattle.replay_turn.proofs.Reading.{found-there, refused-there}
+use Rattle.reader.proofs.Further.{found-there, refused-there}
 use Rattle.replay_turn.proofs.Meaning.{gatheredAt, record-first, nothing-there, refused-there as refused-here, no-record-ends, rest-of, spoken, yardIn, nothing-before, gathering-goes}
 use Rattle.replay_turn.proofs.Nexts.{Closed, at-the-end, cut-at-the-end, refused-for-good, no-place, note-on}
 use Rattle.replay_turn.proofs.Turning.{gathering-halts}

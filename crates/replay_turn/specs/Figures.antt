@@ -2,7 +2,7 @@
 -- The frame's bytes are those of document 01's example.
 use mathlib.Core.Path.{_≡_, refl}
 use mathlib.Core.Bool.{true, false}
-use mathlib.Core.List.{List, [], _∷_, _++_}
+use mathlib.Core.List.{[], _∷_, _++_}
 use Rattle.tablefile.specs.BigEndian.{number}
 use Rattle.tablefile.specs.Layout.{kinds, total, fieldNumbers, size}
 use Rattle.reader.specs.Reader.{isMark, markedAmong, readFields, readMarked, readLeft, readAt}

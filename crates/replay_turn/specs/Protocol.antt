@@ -2,20 +2,19 @@
 -- Each statement has a name here, and its proof under the same name in the file Protocol of proofs/. x is where the reading stands; n is the number of a turn.
 use Prim.Native.Nat.{ℕ, suc, _≤_}
 use mathlib.Core.Path.{_≡_}
-use mathlib.Core.Bool.{Bool, true}
-use mathlib.Core.List.{List, _++_}
+use mathlib.Core.Bool.{Bool}
+use mathlib.Core.List.{List}
 use lib.IntN.{ℤ}
 use lib.ListN.{length, take}
 use Rattle.tablefile.specs.BigEndian.{AreBytes}
 use Rattle.intake.specs.Holding.{Within, heldIn, cameIn}
 use Rattle.intake.specs.Sessions.{MayTurn, MayRead, HasEnded}
-use Rattle.intake.specs.Promises.{Given}
 use Rattle.intake.specs.declared.Held.{Held}
 use Rattle.intake.specs.declared.Next.{Next}
 use Rattle.intake.specs.declared.Next.the-variants.{GoesOn, Reads, Ends}
 use Rattle.replay_text.specs.Lines.{lineRoom}
-use Rattle.replay_turn.specs.Gathered.{Final, gatheredFrom}
-use Rattle.replay_turn.specs.Turns.{Reached, readTurn, finalOf, begunReading, reachedBy, Made, turnMade}
+use Rattle.replay_turn.specs.Gathered.{gatheredFrom}
+use Rattle.replay_turn.specs.Turns.{Reached, readTurn, finalOf, begunReading, reachedBy, turnMade}
 use Rattle.replay_turn.specs.declared.Standing.{Standing}
 
 -- three lists of so many places each

@@ -1,5 +1,5 @@
 -- `intake::keep` meets its contract. The loop's invariant: i bytes were moved, and those from there on stand as they stood. Assumes nothing.
-use mathlib.Core.Path.{_≡_, refl}
+use mathlib.Core.Path.{_≡_}
 use mathlib.Core.List.{List}
 use Prim.Native.Nat.{ℕ, _-_, _≤_}
 use native.Mathlib.Omega.{arith}

@@ -1,12 +1,10 @@
 -- `intake::keep_for` meets its contract: what is held is not in the buffer, or it goes by what comes next. Assumes nothing.
-use mathlib.Core.Path.{_≡_, sym, ap, _∙_}
-use mathlib.Core.Bool.{true}
-use Prim.Native.Nat.{_≤_}
+use mathlib.Core.Path.{sym, ap, _∙_}
 use lib.ListN.{length}
 use borrow.Author.Needs.{needs}
 use Rattle.quantity.proofs.Booleans.{refuted, confirmed}
 use Rattle.intake.specs.declared.Next.{Next}
-use Rattle.intake.specs.Holding.{Within, isWithin, keptFor, asItWas}
+use Rattle.intake.specs.Holding.{Within, keptFor, asItWas}
 use Rattle.intake.proofs.Promises.{is-within, unmoved, brought}
 use Rattle.intake.proofs.keep_for.Statement.{statement}
 use Rattle.intake.proofs.keep_for.Tie as tie

@@ -2,7 +2,6 @@
 use borrow.Author.Needs.{needs}
 use Prim.Native.Nat.{_-_}
 use native.Mathlib.Omega.{arith}
-use lib.ListN.{length}
 use Rattle.listing_turn.proofs.Making.{counts}
 use Rattle.listing.proofs.Rolling.{Rolling, begins, Turning, turns, rolls-on, reads-on}
 use Rattle.listing.proofs.list_all.Statement.{statement}

@@ -5,7 +5,6 @@ use Rattle.bridge.specs.declared.Bridge.{Bridge}
 use Rattle.bridge.specs.Tables.{freshBridge}
 use Rattle.intake.specs.declared.Held.{Held}
 use Rattle.intake.specs.Holding.{nothingHeld}
-use Rattle.listing_turn.specs.declared.Standing.{Standing}
 use Rattle.listing_turn.specs.Turns.{begunListing}
 use Rattle.listing_turn.proofs.begin.Statement.{statement}
 use Rattle.listing_turn.proofs.begin.Tie as tie
