@@ -5,3 +5,4 @@ pub mod TableFile
 pub mod InterruptSide
 pub mod Listing
 pub mod Yard
+pub mod Sessions

@@ -8,3 +8,4 @@ pub mod TableFile
 pub mod InterruptSide
 pub mod Listing
 pub mod Yard
+pub mod Sessions
