@@ -247,8 +247,7 @@ pub extern "C" fn aldurretx_set_up_group(
     class: u64,
     residence: u64,
 ) -> u8
-    ensures { λ r. ⌜ (r ≡ groupTold (groupPlaced id (groupOf (now (group .entry))) class residence) .number)
-        × (now (group .exit) ≡ groupTold (groupPlaced id (groupOf (now (group .entry))) class residence) .group) ⌝ }
+    ensures { λ r. ⌜ record { number = r; group = now (group .exit) } ≡ groupTold (groupPlaced id (groupOf (now (group .entry))) class residence) ⌝ }
 {
     let told = tell_group(id, *group, class, residence);
     *group = told.group;
@@ -265,8 +264,8 @@ pub extern "C" fn aldurretx_set_up_stream(
     rate: u64,
     burst: u64,
 ) -> u8
-    ensures { λ r. ⌜ (r ≡ streamTold (now (stream .entry)) (streamPlaced id (streamOf (now (stream .entry))) «in_group» (groupOf (now (group .entry))) rate burst) .number)
-        × (now (stream .exit) ≡ streamTold (now (stream .entry)) (streamPlaced id (streamOf (now (stream .entry))) «in_group» (groupOf (now (group .entry))) rate burst) .stream) ⌝ }
+    ensures { λ r. ⌜ record { number = r; stream = now (stream .exit) }
+        ≡ streamTold (now (stream .entry)) (streamPlaced id (streamOf (now (stream .entry))) «in_group» (groupOf (now (group .entry))) rate burst) ⌝ }
 {
     let told = tell_stream(id, *stream, in_group, *group, rate, burst);
     *stream = told.stream;
@@ -284,10 +283,8 @@ pub extern "C" fn aldurretx_receive(
     arrival: u64,
     time: &mut u64,
 ) -> u8
-    ensures { λ r. ⌜ (r ≡ frameReceived id (now (group .entry)) (now (streams .entry)) stream octets arrival (now (time .entry)) .number)
-        × (now (group .exit) ≡ frameReceived id (now (group .entry)) (now (streams .entry)) stream octets arrival (now (time .entry)) .group)
-        × (now (streams .exit) ≡ frameReceived id (now (group .entry)) (now (streams .entry)) stream octets arrival (now (time .entry)) .streams)
-        × (now (time .exit) ≡ frameReceived id (now (group .entry)) (now (streams .entry)) stream octets arrival (now (time .entry)) .time) ⌝ }
+    ensures { λ r. ⌜ record { number = r; time = now (time .exit); group = now (group .exit); streams = now (streams .exit) }
+        ≡ frameReceived id (now (group .entry)) (now (streams .entry)) stream octets arrival (now (time .entry)) ⌝ }
 {
     if is_ready(streams.len(), stream) {
         let at = stream as usize;

@@ -1,21 +1,55 @@
 -- Demand 2, proved. Assumes nothing.
 use mathlib.Core.List.{List, [], _∷_}
-use mathlib.Core.Logic.{_⊎_, inl, inr}
+use mathlib.Core.Path.{_≡_, refl, ap, _∙_}
+use mathlib.Core.Bool.{Bool, true, false, cond, not}
 use Prim.Native.Nat.{ℕ}
 use Rattle.bridge.specs.Tables.{freshBridge}
 use Rattle.bridge.specs.History.{Call, group, stream, frame, afterCall}
 use Rattle.bridge.specs.declared.Bridge.{Bridge}
-use Rattle.bridge.proofs.Views.{KeptFrame, JudgedFrame, frame-view}
+use Rattle.quantity.specs.Ranges.{inRange}
+use Rattle.quantity.specs.declared.Item.the-variants.{StreamId}
+use Rattle.quantity.specs.declared.Refusal.{Refusal}
+use Rattle.quantity.specs.declared.Refusal.the-variants.{NoStream}
+use Rattle.records.specs.declared.Answer.{Answer}
+use Rattle.admission.specs.Tests.{tested}
+use Rattle.admission.specs.declared.Tested.{Tested}
+use Rattle.admission.specs.declared.Tested.the-variants.{Refused, Charged}
+use Rattle.shaper.specs.Numbers.{refused, afterTests, judged}
+use Rattle.calls.specs.Calls.{judgedAt}
+use Rattle.bridge.specs.Calls.{frameStored, frameCalled}
+use Rattle.bridge.specs.Tables.{groupAt, streamAt, withGroup}
+use Rattle.bridge.proofs.Tables.{same-group, same-stream}
 use Rattle.reader.proofs.RoundTrip.{reads-back, writes-back, file-reads-back, file-writes-back}
-use Rattle.promises.specs.Demand2.{ByProcessFrame, EachByProcessFrame, ProcessFrameThroughout, RoundTrips}
+use Rattle.promises.specs.Demand2.{frameTested, byTests, ByProcessFrame, EachByProcessFrame, ProcessFrameThroughout, RoundTrips}
 
-by-process-frame : (b : Bridge) (i n A : ℕ) → ByProcessFrame b i n A
-unfolding ByProcessFrame
-by-process-frame b i n A = go (frame-view b i n A)
-  where
-    go : KeptFrame b i n A ⊎ JudgedFrame b i n A → ByProcessFrame b i n A
-    go (inl v) = inl (v .why, v .gives)
-    go (inr v) = inr (v .gives)
+-- what was there is stored back: the tables stay
+stored-back : (b : Bridge) (i : ℕ) (why : Refusal) → let k = streamAt b i .group in frameStored b i k (refused (streamAt b i) (groupAt b k) why) ≡ record { answer = Answer.Refused why; bridge = b }
+unfolding frameStored
+stored-back b i why =
+    let k = streamAt b i .group in
+    ap (λ (x : Bridge). record { answer = Answer.Refused why; bridge = x })
+    (ap (λ (x : Bridge). withGroup x k (groupAt b k)) (same-stream b i) ∙ same-group b k)
+
+module _ (b : Bridge) (i n A : ℕ) where
+  k : ℕ
+  k = streamAt b i .group
+
+  -- by what the tests of the records give
+  after-tests : (x : Tested) → frameStored b i k (afterTests (streamAt b i) (groupAt b k) A x) ≡ byTests b i A x
+  unfolding afterTests byTests k
+  after-tests (Refused why) = stored-back b i why
+  after-tests (Charged L) = refl
+
+  by-process-frame : ByProcessFrame b i n A
+  unfolding ByProcessFrame frameCalled frameTested judgedAt judged byTests k
+  by-process-frame = go (inRange StreamId i)
+    where
+      go : (t : Bool)
+          → frameStored b i (streamAt b i .group)
+          (cond (not t) (refused (streamAt b i) (groupAt b (streamAt b i .group)) NoStream) (judged (streamAt b i) (groupAt b (streamAt b i .group)) n A))
+          ≡ byTests b i A (cond (not t) (Refused NoStream) (tested (streamAt b i) (groupAt b (streamAt b i .group)) n A))
+      go true = after-tests (tested (streamAt b i) (groupAt b (streamAt b i .group)) n A)
+      go false = stored-back b i NoStream
 
 each-from : (b : Bridge) (xs : List Call) → EachByProcessFrame b xs
 unfolding EachByProcessFrame

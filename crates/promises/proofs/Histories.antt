@@ -21,7 +21,8 @@ use Rattle.records.specs.declared.Regulator.{Regulator}
 use Rattle.records.specs.declared.Regulator.the-variants.{Unset, Bucket}
 use Rattle.admission.proofs.Tests.{Passes}
 use Rattle.records.proofs.Soundness.{SoundOk, sound-ok}
-use Rattle.shaper.proofs.Natural.{X, T-late, T-least, X-after, X-fresh}
+use Rattle.shaper.specs.Natural.{X}
+use Rattle.shaper.proofs.Natural.{T-late, T-least, X-after, X-fresh}
 use Rattle.bridge.specs.Tables.{freshBridge, groupAt, streamAt, withGroup, withStream}
 use Rattle.bridge.specs.History.{Call, group, stream, frame, afterCall, after, Outcome, released, discarded, frameOf, outcome, outcomes}
 use Rattle.bridge.specs.Spans.{burstAt, rateAt}

@@ -3,6 +3,7 @@
 // No record, no queue and no rule of judging lives here.
 ghost use mathlib.Core.Path.{_≡_};
 ghost use Rattle.quantity.specs.Ranges.{leastOf, mostOf, inRange, placeOf};
+ghost use Rattle.quantity.specs.Kinds.{bits};
 ghost use Rattle.quantity.specs.Charge.{chargedBits};
 ghost use Rattle.quantity.specs.Numbers.{numberOf};
 
@@ -211,7 +212,7 @@ pub fn refusal_number(refusal: Refusal) -> u8
 
 // The charged bits of a frame on a line that adds so many octets to each.
 pub fn charge(octets: u16, overhead: u8) -> Bits
-    ensures { λ r. ⌜ r .0 ≡ chargedBits overhead octets ⌝ }
+    ensures { λ r. ⌜ r ≡ bits (chargedBits overhead octets) ⌝ }
 {
     Bits(8 * ((octets as u64) + (overhead as u64)))
 }

@@ -20,9 +20,8 @@ pub fn receive(
     octets: u16,
     arrival: Ticks,
 ) -> Answer
-    ensures { λ r. ⌜ (r ≡ received id (now (group .entry)) (now (streams .entry)) stream octets (arrival .0) .answer)
-        × (now (group .exit) ≡ received id (now (group .entry)) (now (streams .entry)) stream octets (arrival .0) .group)
-        × (now (streams .exit) ≡ received id (now (group .entry)) (now (streams .entry)) stream octets (arrival .0) .streams) ⌝ }
+    ensures { λ r. ⌜ record { answer = r; group = now (group .exit); streams = now (streams .exit) }
+        ≡ received id (now (group .entry)) (now (streams .entry)) stream octets (arrival .0) ⌝ }
 {
     if is_ready(streams.len(), stream as u64) {
         let at = stream as usize;

@@ -2,3 +2,4 @@ pub mod ExactTime
 pub mod Sound
 pub mod Numbers
 pub mod Steps
+pub mod Promises

@@ -13,8 +13,6 @@ use records::Stream;
 use tablefile::Reading;
 use tablefile::Record;
 ghost use mathlib.Core.Path.{_≡_};
-ghost use Prim.Native.Nat.{_+_, _≤_};
-ghost use lib.ListN.{length};
 ghost use Rattle.replay_gathering.specs.Gathering.{hasRoom, taskOf, taskFor, gatherFrom, begun};
 ghost use Rattle.replay_gathering.specs.Steps.{taskAfter, streamOf, groupOf, preparedBy};
 
@@ -230,9 +228,8 @@ pub fn gather_part(
     octets: &mut [u16],
     mut count: usize,
 ) -> Gathered
-    ensures { λ r. ⌜ (record { gathered = r; arrivals = now (arrivals .exit); ids = now (ids .exit); octets = now (octets .exit) }
-        ≡ gatherFrom (now (bytes .entry)) (begun bridge (now (arrivals .entry)) (now (ids .entry)) (now (octets .entry)) count))
-        × (r .at ≤ length (now (bytes .entry))) ⌝ }
+    ensures { λ r. ⌜ record { gathered = r; arrivals = now (arrivals .exit); ids = now (ids .exit); octets = now (octets .exit) }
+        ≡ gatherFrom (now (bytes .entry)) (begun bridge (now (arrivals .entry)) (now (ids .entry)) (now (octets .entry)) count) ⌝ }
 {
     let mut groups = bridge.groups;
     let mut streams = bridge.streams;

@@ -25,13 +25,9 @@ use Rattle.records.specs.declared.Regulator.the-variants.{Unset, Bucket}
 use Rattle.records.proofs.Integers.{sum, difference, of-lt, of-not-lt, opposite-above, opposite-below}
 use Rattle.records.proofs.ExactTime.{not-before-first, first-least, exactly-of, part-of}
 use Rattle.records.proofs.Soundness.{group-ok, bucket-ok, bucket-sound, SoundOk, sound-ok, sound-of}
+use Rattle.shaper.specs.Natural.{X}
 use Rattle.shaper.proofs.Buckets.{full-zero, full-below}
 use Rattle.admission.proofs.Tests.{Passes}
-
--- X of a regulator
-unfoldable pub X : ℕ → Regulator → ℕ
-X r Unset = 0
-X r (Bucket b e) = orZero (F (exactly r e) (b .0))
 
 -- S and F from E, in ℕ
 start-parts : (E : ℤ) (L : ℕ) → orZero (S E L) + shortfall E ≡ orZero E + bitTime L + shortfall (S E L)

@@ -2,3 +2,4 @@ pub mod Frame
 pub mod Numbers
 pub mod Figures
 pub mod Steps
+pub mod Natural

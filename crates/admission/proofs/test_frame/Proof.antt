@@ -29,7 +29,7 @@ octets c = confirmed (c .before .in-range .ensures) (c .if3 .left)
 burst : (c : tie.After-above-burst) → let a = c .before .before .before .before .before .before .before .before .args in c .above-burst .result ≡ aboveBurst (a .stream .regulator) (charged (a .octets))
 burst c =
     let a = c .before .before .before .before .before .before .before .before .args in
-    c .above-burst .ensures ∙ ap (λ (n : ℕ). aboveBurst (a .stream .regulator) n) (c .before .charge .ensures)
+    c .above-burst .ensures ∙ ap (λ (L : Bits). aboveBurst (a .stream .regulator) (L .0)) (c .before .charge .ensures)
 
 within : (c : tie.Else4) → let a = c .before .before .before .before .before .before .before .before .before .args in aboveBurst (a .stream .regulator) (charged (a .octets)) ≡ false
 within c = sym (burst (c .before)) ∙ c .if4 .left
@@ -109,7 +109,7 @@ returns-7 c =
     let f = o .before .before in
     let e = f .before .before in
     let a = e .before .before .args in
-    ap (λ (L : Bits). Charged L) (ap (λ (n : ℕ). record { 0 = n }) (k .charge .ensures))
+    ap (λ (L : Bits). Charged L) (k .charge .ensures)
     ∙ sym (none-refuses (a .stream) (a .group) (a .octets) (a .arrival .0) (set-up e) (records f) (octets o) (within b) (arrival l) (c .if6 .left))
 
 pub test-frame-spec : {M : Type 1} → statement M

@@ -171,7 +171,7 @@ module _ {M : Type 1} (𝓤 : URA M) (H : Heap 𝓤) (A : Atoms 𝓤) (W : Given
   exits g′ zs t′ r e long r-fits =
       qed W (‵ (fobs γ (G.the-row .coded .code g′)) ∷ ‵ (fbor κ (Body (mem G.the-row) b o γ)) ∷ ‵ (flft κ q) ∷ ‵ (fobs γ′ (codedHoleys S.the-row .code (heres S.the-row zs))) ∷ ‵ (fbor κ′ (Held S.the-row (length zs) b′ o′ γ′)) ∷ ‵ (flft κ′ q′) ∷ ‵ (fobs γ″ (u64 .coded .code t′)) ∷ ‵ (fbor κ″ (Body (mem u64) b″ o″ γ″)) ∷ ‵ (flft κ″ q″) ∷ []) ∵
       suffices ! _ (ends-at 𝓤 H A f.ended stayed (f.clauses 𝓤 H A at-mem run) W (((κ, (κ′, (κ″, tt))), (q, (q′, (q″, tt))), tt, x, at), tt) (vint w8 r) r (tt, (g′, (zs, (tt, (tt, (tt, (t′, tt))))))) (tt, (tt, (long, (tt, (tt, (tt, (tt, tt)))))))) $
-      says ! (ap (λ (w : FrameReceived). w .number) e, ap (λ (w : FrameReceived). w .group) e, ap (λ (w : FrameReceived). w .streams) e, ap (λ (w : FrameReceived). w .time) e) $
+      says ! e $
       nothing ! $ move ! (9 ∷ 0 ∷ []) $ join ! $ move ! (6 ∷ 0 ∷ []) $ join ! $ move ! (3 ∷ 0 ∷ []) $ join ! $ frame ! $ feqI ! (List Val) (vptr b o ∷ []) (vptr b o ∷ []) refl $ fjoin3 ! $ move ! (1 ∷ 2 ∷ []) $
       fjoin ! $ pureI ! (at-slice S.the-row (xs zs) (s ∷ [])) (tt, (tt, tt)) (ap (λ (l : ℕ). sliceVal (b′, o′) l ∷ []) (sym long), subst (Room S.the-row) (sym long) room) $ fjoin ! $
       move ! (2 ∷ 3 ∷ []) $ feqI ! (List Val) (vptr b″ o″ ∷ []) (vptr b″ o″ ∷ []) refl $ fjoin3 ! $

@@ -170,7 +170,7 @@ module _ {M : Type 1} (𝓤 : URA M) (H : Heap 𝓤) (A : Atoms 𝓤) (W : Given
   exits g′ zs r e long is =
       qed W (‵ (fobs γ (G.the-row .coded .code g′)) ∷ ‵ (fbor κ (Body (mem G.the-row) b o γ)) ∷ ‵ (flft κ q) ∷ ‵ (fobs γ′ (codedHoleys S.the-row .code (heres S.the-row zs))) ∷ ‵ (fbor κ′ (Held S.the-row (length zs) b′ o′ γ′)) ∷ ‵ (flft κ′ q′) ∷ []) ∵
       suffices ! _ (ends-at 𝓤 H A f.ended stayed (f.clauses 𝓤 H A at-mem run) W (((κ, (κ′, tt)), (q, (q′, tt)), tt, x, at), tt) (n-val r) r (tt, (g′, (zs, (tt, (tt, (tt, tt)))))) (tt, (tt, (long, (tt, (tt, (tt, tt))))))) $
-      says ! (ap (λ (t : Received). t .answer) e, ap (λ (t : Received). t .group) e, ap (λ (t : Received). t .streams) e) $
+      says ! e $
       nothing ! $ move ! (6 ∷ 0 ∷ []) $ join ! $ move ! (3 ∷ 0 ∷ []) $ join ! $ frame ! $ feqI ! (List Val) (vptr b o ∷ []) (vptr b o ∷ []) refl $ fjoin3 ! $ move ! (1 ∷ 2 ∷ []) $
       fjoin ! $ pureI ! (at-slice S.the-row (xs zs) (s ∷ [])) (tt, (tt, tt)) (ap (λ (t : ℕ). sliceVal (b′, o′) t ∷ []) (sym long), subst (Room S.the-row) (sym long) room) $ fjoin ! $
       nothing ! $ owned ! T.the-row (Is T.the-row) (LL.makes T.the-type T′.the-plain 𝓤 H A) m _ m-is $ fjoin ! $ owned ! u16 (Is u16) (uint-makes 𝓤 H A W w16) n _ (refl, n-fits) $ fjoin ! $ owned ! u8 (Is u8) (uint-makes 𝓤 H A W w8) k _ (refl, k-fits) $ fjoin ! $

@@ -71,7 +71,7 @@ unfolding ended begun
 returns c =
     let k = c .before in
     let t = here (k .before .before) in
-    (turn-ends t _ (k .task .given .1), t .gathers .within)
+    turn-ends t _ (k .task .given .1)
 
 -- ---- a set-up
 

@@ -37,7 +37,7 @@ unfolding heldIn
 gathered c =
     let e = c .before .before .before .before .before .before .before in
     let a = e .before .before .before .before .before .before .before .before .args in
-    used (a .standing) (a .input .now) (a .notes .now) (a .arrivals .now) (a .ids .now) (a .octets .now) (ready e) _ _ _ _ (c .gather-part .ensures .0)
+    used (a .standing) (a .input .now) (a .notes .now) (a .arrivals .now) (a .ids .now) (a .octets .now) (ready e) _ _ _ _ (c .gather-part .ensures)
 
 sub-gather-part : tie.Need-sub-gather-part
 sub-gather-part c = let f = fitted (c .before) in omega (arith, f .within .ahead)
@@ -101,7 +101,7 @@ returns-2 c =
     let g = n .before .before .before .before .before .before .before .before in
     let e = g .before .before .before .before .before .before .before in
     let a = e .before .before .before .before .before .before .before .before .args in
-    turn-made (a .standing) (a .input .now) (a .notes .now) (a .arrivals .now) (a .ids .now) (a .octets .now) (ready e) _ _ _ _ _ _ _ _ _ _ _ (g .gather-part .ensures .0) (n .next-of .ensures) (m .note-of .ensures) (w .is-whole .ensures) (p .put-note .ensures) (k .keep-for .ensures)
+    turn-made (a .standing) (a .input .now) (a .notes .now) (a .arrivals .now) (a .ids .now) (a .octets .now) (ready e) _ _ _ _ _ _ _ _ _ _ _ (g .gather-part .ensures) (n .next-of .ensures) (m .note-of .ensures) (w .is-whole .ensures) (p .put-note .ensures) (k .keep-for .ensures)
 
 pub turn-spec : {M : Type 1} → statement M
 turn-spec =
