@@ -15,6 +15,7 @@ use Rattle.classes.specs.Soundness.{every, entrySound, soundAt, classSound, all
 use Rattle.classes.specs.Calls.{notEntered, enterGives, dueOr, dueBelow, dueOf, takeDue, pickGives}
 use Rattle.waiting.specs.Rules.{none, one, Picks}
 use Rattle.waiting.specs.Promises.{Reached, start, entering, picking}
+use Rattle.waiting.specs.Answers.{enteredNumber, pickedNumber, pickedValues}
 use Rattle.waiting.proofs.Promises.{reached-is-sound, reached-is-never-refused, entered-is-last, full-is-thirty-two, picked-is-first, pick-is-fixed, nothing-is-nothing, refused-changes-nothing, smallest-is-smallest}
 use Rattle.cases.specs.Waiting.{entry, withSeven, withEight, withNine, sevenPicked, withoutSeven, neverSeven, inClass, overfull, WaitingExamples}
 
@@ -54,7 +55,7 @@ waiting-examples = record {
   where
     -- the pick at 500, by the promise; what it says of the higher classes serves the other outcome, too
     picked : Picks withNine sevenPicked 500 6 (entry 7 500)
-    picked = picked-is-first withNine 500 6 (entry 7 500) (reached-is-sound withNine nine-reached .0) refl
+    picked = picked-is-first withNine 500 6 (entry 7 500) (reached-is-sound withNine nine-reached .0) refl refl
 
     -- the classes that nothing enters are those of the empty places
     never-others : (d : ℕ) → (d ≡ 6 → ⊥) → queue neverSeven d ≡ queue withNine d
@@ -87,12 +88,12 @@ pub waiting-premises : WaitingExamples → Unit {0}
 waiting-premises x =
     let sound = reached-is-sound sevenPicked (x .reached) in
     let never-9 = reached-is-never-refused sevenPicked (x .reached) in
-    let last = entered-is-last withSeven 6 (entry 8 500) (x .one-waits) (x .entered) in
-    let not-full = full-is-thirty-two (inClass 3 31) 3 (entry 31 0) .1 (x .thirty-second) in
-    let full = full-is-thirty-two (inClass 3 32) 3 (entry 32 0) .0 (x .thirty-third) in
-    let first = picked-is-first withNine 500 6 (entry 7 500) (x .three-wait) (x .seven-first) in
+    let last = entered-is-last withSeven 6 (entry 8 500) (x .one-waits) (ap enteredNumber (x .entered)) in
+    let not-full = full-is-thirty-two (inClass 3 31) 3 (entry 31 0) .1 (ap enteredNumber (x .thirty-second)) in
+    let full = full-is-thirty-two (inClass 3 32) 3 (entry 32 0) .0 (ap enteredNumber (x .thirty-third)) in
+    let first = picked-is-first withNine 500 6 (entry 7 500) (x .three-wait) (ap pickedNumber (x .seven-first)) (ap pickedValues (x .seven-first)) in
     let fixed = pick-is-fixed withNine sevenPicked neverSeven 500 6 6 (entry 7 500) (entry 7 500) (x .picked) (x .picked-too) in
-    let nothing-eligible = nothing-is-nothing withNine 299 (x .not-yet) in
+    let nothing-eligible = nothing-is-nothing withNine 299 (ap pickedNumber (x .not-yet)) in
     let entering-refused = refused-changes-nothing (inClass 3 32) .0 3 (entry 32 0) (x .not-entered) in
     let pick-refused = refused-changes-nothing overfull .1 0 (x .not-picked) in
     let smallest = smallest-is-smallest withNine .0 (ticks 300) (x .smallest) in

@@ -33,7 +33,7 @@ use Rattle.waiting.proofs.Lines.{each-split, each-head}
 use Rattle.waiting.proofs.Choosing.{chosen}
 use Rattle.waiting.proofs.Cases.{Taking, pick-ways, taken}
 use Rattle.waiting.proofs.Kept.{first-inside, put-keeps, take-keeps, taken-fine, enter-untested}
-use Rattle.waiting.proofs.Promises.{entered-is-last, picked-is-first, nothing-is-nothing, smallest-is-smallest}
+use Rattle.waiting.proofs.Promises.{enters-last, picks-first, picks-nothing, smallest-is-smallest}
 use Rattle.event.specs.declared.Step.the-variants.{Pick}
 use Rattle.event.proofs.Steps.{Picks as PicksAt, step-picks, event-picks}
 use Rattle.line.specs.Run.{Input, State, step, handed, entered, settled, frameAt, groupOf, settledAt, arrived, sendingTicks, sent, pickedAt}
@@ -92,7 +92,7 @@ module _ (w : Waiting) (g : Group) (k n : ℕ) (sh : Shaped w) (so : allSound (w
           handle = refl;
           number = rw u refl;
           zero = rw u refl;
-          enters = entered-is-last w (h .class) (h .entry) sh (ap (λ (x : AfterEnter). x .answer) u);
+          enters = enters-last w (h .class) (h .entry) sh (ap (λ (x : AfterEnter). x .answer) u);
           shaped = rw u (z .0);
           sound = rw u (z .1);
         })
@@ -164,7 +164,7 @@ module _ (i : Input) (s : State) (S : Sound s) (m : ℕ) where
         entry = e;
         rest = without w (k .class) (k .place);
         gives = u;
-        picks = rw (ap (λ (x : AfterPick). x .waiting) u) at (picked-is-first w m (k .class) e (S .shaped) (ap (λ (x : AfterPick). x .answer) u));
+        picks = rw (ap (λ (x : AfterPick). x .waiting) u) at (picks-first w m (k .class) e (S .shaped) (ap (λ (x : AfterPick). x .answer) u));
         light = fine-bits (e .time .0) (e .bits .0) (taken-fine w (k .class) (k .place) (S .shaped) inside (S .sound));
         shaped = z .0;
         sound = z .1;
@@ -174,7 +174,7 @@ module _ (i : Input) (s : State) (S : Sound s) (m : ℕ) where
   pub pick-leaves : (t : Ticks) → smallestOf (s .waiting .times) (s .waiting .fills) ≡ Time t → t .0 ≤ m → Leave i s m
   pick-leaves t e h =
       ⊎-elim (λ v. let z : false ≡ true = sym (v .sound) ∙ S .sound in let y : _≡_ {A = ℕ} 0 1 = cc in absurd (omega arith))
-      (⊎-elim (λ v. absurd (some-eligible (s .waiting) t m e h (nothing-is-nothing (s .waiting) m (ap (λ (x : AfterPick). x .answer) (v .gives)) .0))) leaves-from)
+      (⊎-elim (λ v. absurd (some-eligible (s .waiting) t m e h (picks-nothing (s .waiting) m (ap (λ (x : AfterPick). x .answer) (v .gives)) .0))) leaves-from)
       (pick-ways (s .waiting) m)
 
 -- what a pick as the next step says

@@ -8,7 +8,9 @@ use native.Mathlib.Omega.{arith}
 use lib.Dec.{ltb, eqb}
 use lib.ListN.{length, getD}
 use borrow.Author.Tests.{ltb-true, ltb-false, eqb-true, eqb-false}
-use Rattle.quantity.specs.Numbers.{leastRefusal}
+use Rattle.quantity.specs.Numbers.{leastRefusal, numberOf}
+use Rattle.quantity.specs.declared.Refusal.{Refusal}
+use Rattle.quantity.proofs.Refusals.{refusal-number, same-refusal}
 use Rattle.quantity.specs.declared.Item.the-variants.{Class}
 use Rattle.quantity.specs.declared.Refusal.the-variants.{Unsound, ClassFull}
 use Rattle.quantity.proofs.Ranges.{at-most}
@@ -29,7 +31,7 @@ use Rattle.places.specs.Places.{withLast, hasRoom, without}
 use Rattle.classes.specs.Calls.{notEntered, enterGives, dueOf, pickGives}
 use Rattle.firsts.specs.Firsts.{smallestOf}
 use Rattle.waiting.specs.Answers.{enteredNumber, pickedNumber, pickedValues}
-use Rattle.waiting.specs.Promises.{start, entering, picking, ReachedIsSound, ReachedIsNeverRefused, EnteredIsLast, FullIsThirtyTwo, PickedIsFirst, PickIsFixed, NothingIsNothing, RefusedChangesNothing, SmallestIsSmallest}
+use Rattle.waiting.specs.Promises.{Reached, start, entering, picking, ReachedIsSound, ReachedIsNeverRefused, EnteredIsLast, FullIsThirtyTwo, PickedIsFirst, PickIsFixed, NothingIsNothing, RefusedChangesNothing, SmallestIsSmallest}
 use Rattle.places.proofs.Counts.{count-is}
 use Rattle.waiting.proofs.Lines.{each-split, each-head, same-first}
 use Rattle.waiting.proofs.Standing.{queue-length, queue-beyond, last-entered, others-stay, stood, stands, others-remain}
@@ -38,6 +40,36 @@ use Rattle.waiting.proofs.Choosing.{Chosen, chosen, none-chosen, all-af
 use Rattle.waiting.proofs.SmallestTimes.{nothing-below, Least, smallest-below}
 use Rattle.waiting.proofs.Kept.{lead, first-inside, first-parts, first-time, put-keeps, take-keeps}
 use Rattle.waiting.proofs.Cases.{Refusing, Accepting, enter-ways, NotPicking, Idle, Taking, pick-ways, taken}
+
+-- ---- an answer is known by its number and its values
+
+is-done : (a : Entered) → enteredNumber a ≡ 0 → a ≡ Done
+is-done Done h = refl
+is-done (NotEntered why) h = absurd (omega (arith, h, refusal-number why .0))
+
+is-not-entered : (x : Refusal) (a : Entered) → enteredNumber a ≡ numberOf x → a ≡ NotEntered x
+is-not-entered x Done h = absurd (omega (arith, h, refusal-number x .0))
+is-not-entered x (NotEntered why) h = ap (λ (y : Refusal). NotEntered y) (same-refusal why x h)
+
+is-nothing : (a : Picked) → pickedNumber a ≡ pickedNumber Nothing → a ≡ Nothing
+is-nothing (Leaves c e) h = absurd (omega (arith, h))
+is-nothing Nothing h = refl
+is-nothing (NotPicked why) h = absurd (omega (arith, h, refusal-number why .0))
+
+is-not-picked : (x : Refusal) (a : Picked) → pickedNumber a ≡ numberOf x → a ≡ NotPicked x
+is-not-picked x (Leaves c e) h = absurd (omega (arith, h, refusal-number x .0))
+is-not-picked x Nothing h = absurd (omega (arith, h, refusal-number x .0))
+is-not-picked x (NotPicked why) h = ap (λ (y : Refusal). NotPicked y) (same-refusal why x h)
+
+-- the answer that has these values
+leavesWith : List ℕ → Picked
+leavesWith l = Leaves (getD l 0 0) (record { handle = getD l 1 0; time = record { 0 = getD l 2 0 }; bits = record { 0 = getD l 3 0 } })
+
+is-leaving : (a : Picked) (c : ℕ) (e : Entry) → pickedNumber a ≡ 0 → pickedValues a ≡ pickedValues (Leaves c e) → a ≡ Leaves c e
+unfolding leavesWith
+is-leaving (Leaves d x) c e h v = ap leavesWith v
+is-leaving Nothing c e h v = absurd (omega (arith, h))
+is-leaving (NotPicked why) c e h v = absurd (omega (arith, h, refusal-number why .0))
 
 -- ---- an entry that entered
 module _ (w : Waiting) (c : ℕ) (e : Entry) (a : Accepting w c e) where
@@ -70,17 +102,22 @@ refused-left : (w : Waiting) (c : ℕ) (e : Entry) (r : Refusing w c e) → ente
 unfolding notEntered
 refused-left w c e r = ap leftBy (r .gives)
 
-pub entered-is-last : EnteredIsLast
-entered-is-last w c e s h = ⊎-elim (λ r. absurd (no r)) (λ a. yes a) (enter-ways w c e) where
+-- by the answer itself
+pub enters-last : (w : Waiting) (c : ℕ) (e : Entry) → Shaped w → enterGives w c e .answer ≡ Done → Enters w (enterGives w c e .waiting) c e
+enters-last w c e s h = ⊎-elim (λ r. absurd (no r)) (λ a. yes a) (enter-ways w c e) where
   no : Refusing w c e → ⊥
   no r = let g = refused-is w c e r in let z : _≡_ {A = ℕ} 0 1 = cc in omega arith
 
   yes : Accepting w c e → Enters w (enterGives w c e .waiting) c e
   yes a = rw (ap leftBy (a .gives)) (enters w c e a s)
 
-pub full-is-thirty-two : FullIsThirtyTwo
+pub entered-is-last : EnteredIsLast
+entered-is-last w c e s h = enters-last w c e s (is-done (enterGives w c e .answer) h)
+
+full-answers : (w : Waiting) (c : ℕ) (e : Entry) →
+    (enterGives w c e .answer ≡ NotEntered ClassFull → length (queue w c) ≡ places) × (enterGives w c e .answer ≡ Done → length (queue w c) < places)
 unfolding hasRoom
-full-is-thirty-two w c e = (λ h. ⊎-elim (λ r. full h r) (λ a. absurd (not-full h a)) (enter-ways w c e), λ h. ⊎-elim (λ r. absurd (not-done h r)) (λ a. done a) (enter-ways w c e)) where
+full-answers w c e = (λ h. ⊎-elim (λ r. full h r) (λ a. absurd (not-full h a)) (enter-ways w c e), λ h. ⊎-elim (λ r. absurd (not-done h r)) (λ a. done a) (enter-ways w c e)) where
   full : enterGives w c e .answer ≡ NotEntered ClassFull → Refusing w c e → length (queue w c) ≡ places
   full h r =
       let g = refused-is w c e r in
@@ -146,8 +183,8 @@ module _ (w : Waiting) (m : ℕ) (t : Taking w m) where
         smallest = rw e (rw (a .1 .1) at (l .smallest));
       }
 
-pub picked-is-first : PickedIsFirst
-picked-is-first w m c e s h = ⊎-elim (λ r. absurd (no r)) (λ q. ⊎-elim (λ i. absurd (idle i)) (λ t. yes t) q) (pick-ways w m) where
+pub picks-first : (w : Waiting) (m c : ℕ) (e : Entry) → Shaped w → pickGives w m .answer ≡ Leaves c e → Picks w (pickGives w m .waiting) m c e
+picks-first w m c e s h = ⊎-elim (λ r. absurd (no r)) (λ q. ⊎-elim (λ i. absurd (idle i)) (λ t. yes t) q) (pick-ways w m) where
   no : NotPicking w m → ⊥
   no r = let g : pickGives w m .answer ≡ NotPicked Unsound = ap answered (r .gives) in let z : _≡_ {A = ℕ} 0 1 = cc in omega arith
 
@@ -161,9 +198,12 @@ picked-is-first w m c e s h = ⊎-elim (λ r. absurd (no r)) (λ q. ⊎-elim (λ
       let y : entryAt w (t .class * places + t .place) ≡ e = cc in
       rw (ap remains (gives w m t), sym y, sym x) (picks w m t s)
 
-pub nothing-is-nothing : NothingIsNothing
+pub picked-is-first : PickedIsFirst
+picked-is-first w m c e s n v = picks-first w m c e s (is-leaving (pickGives w m .answer) c e n v)
+
+pub picks-nothing : (w : Waiting) (m : ℕ) → pickGives w m .answer ≡ Nothing → NothingEligible w m × (pickGives w m .waiting ≡ w)
 unfolding dueOf
-nothing-is-nothing w m h = ⊎-elim (λ r. absurd (no r)) (λ q. ⊎-elim (λ i. yes i) (λ t. absurd (taking t)) q) (pick-ways w m) where
+picks-nothing w m h = ⊎-elim (λ r. absurd (no r)) (λ q. ⊎-elim (λ i. yes i) (λ t. absurd (taking t)) q) (pick-ways w m) where
   no : NotPicking w m → ⊥
   no r = let g : pickGives w m .answer ≡ NotPicked Unsound = ap answered (r .gives) in let z : _≡_ {A = ℕ} 0 1 = cc in omega arith
 
@@ -176,6 +216,13 @@ nothing-is-nothing w m h = ⊎-elim (λ r. absurd (no r)) (λ q. ⊎-elim (λ i.
   yes : Idle w m → NothingEligible w m × (pickGives w m .waiting ≡ w)
   yes i =
       (λ d. all-classes-after w m 0 (λ j y z. all-after w j m (none-chosen (w .times) (w .fills) m classes (i .due) j z)) d (omega arith), ap remains (i .gives))
+
+pub nothing-is-nothing : NothingIsNothing
+nothing-is-nothing w m h = picks-nothing w m (is-nothing (pickGives w m .answer) h)
+
+pub full-is-thirty-two : FullIsThirtyTwo
+full-is-thirty-two w c e =
+    (λ h. full-answers w c e .0 (is-not-entered ClassFull (enterGives w c e .answer) h), λ h. full-answers w c e .1 (is-done (enterGives w c e .answer) h))
 
 -- ---- the rule names one entry only
 module _ (w v v′ : Waiting) (m c c′ : ℕ) (e e′ : Entry) (p : Picks w v m c e) (p′ : Picks w v′ m c′ e′) where
@@ -241,8 +288,9 @@ reached-is-sound w start = (record { times = refl; handles = refl; bits = refl; 
 reached-is-sound _ (entering {w} r c e) = good-entered w c e (reached-is-sound w r)
 reached-is-sound _ (picking {w} r m) = good-picked w m (reached-is-sound w r)
 
-pub reached-is-never-refused : ReachedIsNeverRefused
-reached-is-never-refused w r = (λ c e h. ⊎-elim (λ x. enter c e h x) (λ a. accepted c e h a) (enter-ways w c e), λ m h. ⊎-elim (λ x. pick m x) (λ q. ⊎-elim (λ i. idle m h i) (λ t. taking m h t) q) (pick-ways w m)) where
+never-refused : (w : Waiting) → Reached w →
+    ((c : ℕ) (e : Entry) → enterGives w c e .answer ≡ NotEntered Unsound → ⊥) × ((m : ℕ) → pickGives w m .answer ≡ NotPicked Unsound → ⊥)
+never-refused w r = (λ c e h. ⊎-elim (λ x. enter c e h x) (λ a. accepted c e h a) (enter-ways w c e), λ m h. ⊎-elim (λ x. pick m x) (λ q. ⊎-elim (λ i. idle m h i) (λ t. taking m h t) q) (pick-ways w m)) where
   sound : allSound (w .times) (w .bits) (w .fills) ≡ true
   sound = reached-is-sound w r .1
 
@@ -270,6 +318,10 @@ reached-is-never-refused w r = (λ c e h. ⊎-elim (λ x. enter c e h x) (λ a. 
       let g : pickGives w m .answer ≡ Leaves (t .class) (entryAt w (t .class * places + t .place)) = ap answered (gives w m t) in
       let z : _≡_ {A = ℕ} 0 1 = cc in
       omega arith
+
+pub reached-is-never-refused : ReachedIsNeverRefused
+reached-is-never-refused w r =
+    (λ c e h. never-refused w r .0 c e (is-not-entered Unsound (enterGives w c e .answer) h), λ m h. never-refused w r .1 m (is-not-picked Unsound (pickGives w m .answer) h))
 
 pub smallest-is-smallest : SmallestIsSmallest
 unfolding smallestOf

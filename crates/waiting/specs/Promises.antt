@@ -5,12 +5,11 @@ use mathlib.Core.Path.{_≡_}
 use mathlib.Core.Bool.{true}
 use mathlib.Core.List.{[]}
 use lib.ListN.{length}
-use Rattle.quantity.specs.Numbers.{leastRefusal}
+use Rattle.quantity.specs.Numbers.{leastRefusal, numberOf}
 use Rattle.quantity.specs.declared.Refusal.the-variants.{ClassFull, Unsound}
 use Rattle.places.specs.declared.Waiting.{Waiting}
 use Rattle.places.specs.declared.Entry.{Entry}
-use Rattle.classes.specs.declared.Entered.the-variants.{Done, Refused as NotEntered}
-use Rattle.places.specs.declared.Picked.the-variants.{Leaves, Nothing, Refused as NotPicked}
+use Rattle.places.specs.declared.Picked.the-variants.{Leaves, Nothing}
 use Rattle.firsts.specs.declared.Smallest.the-variants.{Time, NothingWaits}
 use Rattle.quantity.specs.declared.Ticks.{Ticks}
 use Rattle.places.specs.Queue.{places, nothing, queue, Shaped}
@@ -34,21 +33,23 @@ ReachedIsSound = (w : Waiting) → Reached w → Shaped w × (allSound (w .times
 abbrev pub ReachedIsNeverRefused : Type 0
 ReachedIsNeverRefused =
     (w : Waiting) → Reached w →
-    ((c : ℕ) (e : Entry) → enterGives w c e .answer ≡ NotEntered Unsound → ⊥) × ((m : ℕ) → pickGives w m .answer ≡ NotPicked Unsound → ⊥)
+    ((c : ℕ) (e : Entry) → enteredNumber (enterGives w c e .answer) ≡ numberOf Unsound → ⊥) × ((m : ℕ) → pickedNumber (pickGives w m .answer) ≡ numberOf Unsound → ⊥)
 
--- an entry that entered is the last of its class, and nothing else changes
+-- answer 0 to an entry says that it is the last of its class, and nothing else changes
 abbrev pub EnteredIsLast : Type 0
-EnteredIsLast = (w : Waiting) (c : ℕ) (e : Entry) → Shaped w → enterGives w c e .answer ≡ Done → Enters w (enterGives w c e .waiting) c e
+EnteredIsLast = (w : Waiting) (c : ℕ) (e : Entry) → Shaped w → enteredNumber (enterGives w c e .answer) ≡ 0 → Enters w (enterGives w c e .waiting) c e
 
 -- answer 22 says that 32 entries of the class wait; where one entered, there were fewer
 abbrev pub FullIsThirtyTwo : Type 0
 FullIsThirtyTwo =
     (w : Waiting) (c : ℕ) (e : Entry) →
-    (enterGives w c e .answer ≡ NotEntered ClassFull → length (queue w c) ≡ places) × (enterGives w c e .answer ≡ Done → length (queue w c) < places)
+    (enteredNumber (enterGives w c e .answer) ≡ numberOf ClassFull → length (queue w c) ≡ places) × (enteredNumber (enterGives w c e .answer) ≡ 0 → length (queue w c) < places)
 
--- the entry that leaves is the one that the rule names
+-- answer 0 to a pick comes with the values of an entry and its class: the one that the rule names
 abbrev pub PickedIsFirst : Type 0
-PickedIsFirst = (w : Waiting) (m c : ℕ) (e : Entry) → Shaped w → pickGives w m .answer ≡ Leaves c e → Picks w (pickGives w m .waiting) m c e
+PickedIsFirst =
+    (w : Waiting) (m c : ℕ) (e : Entry) → Shaped w → pickedNumber (pickGives w m .answer) ≡ 0 → pickedValues (pickGives w m .answer) ≡ pickedValues (Leaves c e)
+    → Picks w (pickGives w m .waiting) m c e
 
 -- the rule names one entry only, and what is left is fixed, too
 abbrev pub PickIsFixed : Type 0
@@ -58,7 +59,7 @@ PickIsFixed =
 
 -- answer 2 says that nothing is eligible, and nothing changes
 abbrev pub NothingIsNothing : Type 0
-NothingIsNothing = (w : Waiting) (m : ℕ) → pickGives w m .answer ≡ Nothing → NothingEligible w m × (pickGives w m .waiting ≡ w)
+NothingIsNothing = (w : Waiting) (m : ℕ) → pickedNumber (pickGives w m .answer) ≡ pickedNumber Nothing → NothingEligible w m × (pickGives w m .waiting ≡ w)
 
 -- a call that answers a number from 9 up changes nothing, and gives no value
 abbrev pub RefusedChangesNothing : Type 0

@@ -1,0 +1,4 @@
+pub mod Records
+pub mod Receiving
+pub mod SameAsTheBridge
+pub mod DemandsForC

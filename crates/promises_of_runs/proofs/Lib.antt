@@ -1,0 +1,9 @@
+pub mod Lists
+pub mod Writing
+pub mod Picks
+pub mod Steps
+pub mod Demands
+pub mod Queues
+pub mod Parts
+pub mod Arrivals
+pub mod Entries

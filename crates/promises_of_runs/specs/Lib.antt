@@ -1,0 +1,4 @@
+pub mod Steps
+pub mod Demands
+pub mod Queues
+pub mod Entries
