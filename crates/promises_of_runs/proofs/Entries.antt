@@ -16,7 +16,7 @@ use Rattle.line.specs.declared.Start.the-variants.{Runs, NotRun}
 use Rattle.line.proofs.Happening.{arrival-ways, arrived-sound, picked-sound}
 use Rattle.line.proofs.Promises.{runs}
 use Rattle.promises_of_runs.specs.Steps.{Run, beginning, ranOn, framesOf, Step, call, run, afterStep, callsOfStep, callsOf}
-use Rattle.promises_of_runs.specs.Entries.{EntryOf, Among, none, enters, passes, EntriesAreReleased, Settles, done, EachFrameSettles, enteringFrom, enteringFor, EnteringIsEntrances, enteringBy, enteredIn, RunEntersReleased, sentBy, sentOf, enteredThrough, EntriesWithinBurstAndRate}
+use Rattle.promises_of_runs.specs.Entries.{EntryOf, Among, none, enters, passes, EntriesAreReleased, Settles, done, EachFrameSettles, enteringAfter, enteringFor, EnteringIsEntrances, enteredBy, enteredIn, RunEntersReleased, sentBy, sentOf, enteredThrough, EntriesWithinBurstAndRate}
 use Rattle.promises_of_runs.proofs.Lists.{outcomes-append, eligible-append}
 use Rattle.promises_of_runs.proofs.Picks.{pick-keeps, numbers-count}
 use Rattle.promises_of_runs.proofs.Arrivals.{called, judged, answered, enters-of, settles-of}
@@ -50,7 +50,7 @@ each-frame-settles i left k why s s′ S (picks {left = l} {k = j} m e t) =
 
 -- ---- the entries of a run, as a list
 pub entering-is-entrances : EnteringIsEntrances
-unfolding enteringFor enteringFrom entrances
+unfolding enteringFor enteringAfter entrances
 entering-is-entrances i zero k why s s′ (stops e) = refl
 entering-is-entrances i (suc l) k why s s′ (stops e) = rw e refl
 entering-is-entrances i left k why s s′ (arrives {left = l} {k = j} e t) = rw e (ap (λ (hs : List Handed). entering i s ++ hs) (entering-is-entrances i l j why (arrived i s) s′ t))
@@ -72,7 +72,7 @@ ran b r =
     rw (o .gives, entering-is-entrances (r .input) (r .budget) (o .events) (o .stop) (beginning b r) (o .last) t, z) (entries-are-released (r .input) (r .budget) (o .events) (o .stop) (beginning b r) (o .last) t)
 
 pub run-enters-released : RunEntersReleased
-unfolding enteredIn enteringBy framesOf ranOn runGives startedBy
+unfolding enteredIn enteredBy framesOf ranOn runGives startedBy
 run-enters-released b r = go (startAt i s) refl where
   i : Input
   i = r .input
@@ -80,7 +80,7 @@ run-enters-released b r = go (startAt i s) refl where
   s : State
   s = beginning b r
 
-  go : (x : Start) → startAt i s ≡ x → Among i b (framesFrom i (r .start) (startedBy i (r .budget) s x .ran .next - r .start)) (enteringBy i (r .budget) s x)
+  go : (x : Start) → startAt i s ≡ x → Among i b (framesFrom i (r .start) (startedBy i (r .budget) s x .ran .next - r .start)) (enteredBy i (r .budget) s x)
   go (NotRun why) e = among-none i b (framesFrom i (r .start) (startedBy i (r .budget) s (NotRun why) .ran .next - r .start))
   go Runs e = ran b r
 

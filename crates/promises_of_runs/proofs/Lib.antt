@@ -7,3 +7,4 @@ pub mod Queues
 pub mod Parts
 pub mod Arrivals
 pub mod Entries
+pub mod Examples

@@ -40,41 +40,41 @@ pub data Among (i : Input) : Bridge → List Call → List Handed → Type 0 whe
 abbrev pub EntriesAreReleased : Type 0
 EntriesAreReleased = (i : Input) (left k : ℕ) (why : Stop) (s s′ : State) (t : Takes i left s k why s′) → Among i (s .bridge) (framesFrom i (s .next) (length (numbers t))) (entrances t)
 
--- what becomes of each frame, by the tables that those before it left, from sound queues: its number, and what enters
+-- what becomes of each frame, by the tables that those before it left: its number, and what enters. A released one finds room in its class and enters, with 0, or finds it full and gets 22; any other gets its own number
 pub data Settles (i : Input) : Bridge → List Call → List ℕ → List Handed → Type 0 where
   done : {b : Bridge} → Settles i b [] [] []
   room : {b : Bridge} {x : Call} {n : ℕ} {xs : List Call} {ns : List ℕ} {h : Handed} {hs : List Handed} (f : Frame) → outcome b x ≡ released f ∷ [] → n ≡ 0 → EntryOf i b h f → Settles i (afterCall b x) xs ns hs → Settles i b (x ∷ xs) (n ∷ ns) (h ∷ hs)
   full : {b : Bridge} {x : Call} {n : ℕ} {xs : List Call} {ns : List ℕ} {hs : List Handed} (f : Frame) → outcome b x ≡ released f ∷ [] → n ≡ numberOf ClassFull → Settles i (afterCall b x) xs ns hs → Settles i b (x ∷ xs) (n ∷ ns) hs
   other : {b : Bridge} {x : Call} {n : ℕ} {xs : List Call} {ns : List ℕ} {hs : List Handed} → ((f : Frame) → outcome b x ≡ released f ∷ [] → ⊥) → n ≡ reply b x .number → Settles i (afterCall b x) xs ns hs → Settles i b (x ∷ xs) (n ∷ ns) hs
 
--- a frame that is released enters, with 0, or its class is full, and it is given 22; any other is given its own number
+-- so it is of each frame that a run takes, where its queues are sound
 abbrev pub EachFrameSettles : Type 0
 EachFrameSettles = (i : Input) (left k : ℕ) (why : Stop) (s s′ : State) → Sound s → (t : Takes i left s k why s′) → Settles i (s .bridge) (framesFrom i (s .next) (length (numbers t))) (numbers t) (entrances t)
 
 -- ---- the entries of a run, as a list
 
 -- what enters at a step of a run and after it
-unfoldable pub enteringFrom : Input → State → Next → (State → List Handed) → List Handed
-enteringFrom i s (Ends why) more = []
-enteringFrom i s Arrival more = entering i s ++ more (arrived i s)
-enteringFrom i s (Pick m) more = more (pickedAt i s (m .0))
+unfoldable pub enteringAfter : Input → State → Next → (State → List Handed) → List Handed
+enteringAfter i s (Ends why) more = []
+enteringAfter i s Arrival more = entering i s ++ more (arrived i s)
+enteringAfter i s (Pick m) more = more (pickedAt i s (m .0))
 
 -- event by event, with so many left of the budget
 unfoldable pub enteringFor : Input → ℕ → State → List Handed
 enteringFor i zero s = []
-enteringFor i (suc left) s = enteringFrom i s (step i (suc left) s) (enteringFor i left)
+enteringFor i (suc left) s = enteringAfter i s (step i (suc left) s) (enteringFor i left)
 
 -- they are the entrances of its events
 abbrev pub EnteringIsEntrances : Type 0
 EnteringIsEntrances = (i : Input) (left k : ℕ) (why : Stop) (s s′ : State) (t : Takes i left s k why s′) → enteringFor i left s ≡ entrances t
 
 -- nothing enters where the run is refused
-unfoldable pub enteringBy : Input → ℕ → State → Start → List Handed
-enteringBy i budget s Runs = enteringFor i budget s
-enteringBy i budget s (NotRun why) = []
+unfoldable pub enteredBy : Input → ℕ → State → Start → List Handed
+enteredBy i budget s Runs = enteringFor i budget s
+enteredBy i budget s (NotRun why) = []
 
 unfoldable pub enteredIn : Bridge → Run → List Handed
-enteredIn b r = enteringBy (r .input) (r .budget) (beginning b r) (startAt (r .input) (beginning b r))
+enteredIn b r = enteredBy (r .input) (r .budget) (beginning b r) (startAt (r .input) (beginning b r))
 
 -- what enters in a run are released frames of the calls that it makes
 abbrev pub RunEntersReleased : Type 0
