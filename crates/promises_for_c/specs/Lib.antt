@@ -1,3 +1,4 @@
 pub mod Lent
 pub mod SameAsTheBridge
 pub mod DemandsForC
+pub mod Examples
