@@ -196,9 +196,14 @@ def main():
         if "--list" in sys.argv:
             continue
 
+        # a lemma's name in snake case is a function's in code
+        code = path.endswith((".rt", ".edit"))
+
         def turn(m):
             word = m.group(0)
-            return new[word] if word in new and word not in theirs else word
+            if word not in new or word in theirs or (code and word in OTHERWISE and "_" in word):
+                return word
+            return new[word]
 
         lines = []
         for line in text.split("\n"):

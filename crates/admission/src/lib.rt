@@ -1,5 +1,7 @@
 // What a frame passes before it is judged: the tests in their order, what is sound of a stream with its group among them.
 // A record reached from a fresh start always is. Judging itself is `shaper`'s.
+#![tactic(auto)]
+
 ghost use Rattle.std.specs.Prelude.{◌≡◌, true, ℕ, ◌<◌, ◌≤◌};
 ghost use Rattle.std.specs.Int.Signed.{le_z};
 ghost use Rattle.quantity.specs.Ranges.{in_range, most_of};
@@ -13,7 +15,7 @@ use quantity::{
 use records::{Group, Moment, Regulator, Stream, is_set_up, sound_group};
 
 // What the tests make of a frame: a refusal, or its charged bits.
-#[derive(Drop)]
+#[derive(Clone, Copy, Drop)]
 pub enum Tested {
     Refused(Refusal),
     Charged(Bits),

@@ -1,5 +1,7 @@
 // The bridge's tables of 16 groups and 64 streams, and the calls on them: set up a group, set up a stream, a frame.
 // What a call makes of single records is `calls`'; here stand the tables, and which of their places change.
+#![tactic(auto)]
+
 ghost use Rattle.std.specs.Prelude.{◌≡◌};
 ghost use Rattle.bridge.specs.Tables.{no_group, no_stream, fresh_bridge};
 ghost use Rattle.bridge.specs.Calls.{group_called, stream_called, frame_called};
@@ -8,20 +10,20 @@ use calls::{SetUp, judge_at, place_group, place_stream};
 use quantity::{Bits, Item, Rate, Ticks, place_of};
 use records::{Answer, Group, Regulator, Stream};
 
-#[derive(Drop)]
+#[derive(Clone, Copy, Drop)]
 pub struct Bridge {
     pub groups: [Group; 16],
     pub streams: [Stream; 64],
 }
 
 // The answer to a call, and the tables after it.
-#[derive(Drop)]
+#[derive(Clone, Copy, Drop)]
 pub struct BridgeSetUp {
     pub answer: SetUp,
     pub bridge: Bridge,
 }
 
-#[derive(Drop)]
+#[derive(Clone, Copy, Drop)]
 pub struct Framed {
     pub answer: Answer,
     pub bridge: Bridge,
@@ -42,7 +44,7 @@ fn no_group() -> Group
 }
 
 // A stream's record that is not set up.
-fn no_stream_is() -> Stream
+fn no_stream() -> Stream
     ensures { result ≡ no_stream }
 {
     Stream {
@@ -58,7 +60,7 @@ pub fn fresh() -> Bridge
 {
     Bridge {
         groups: [no_group(); 16],
-        streams: [no_stream_is(); 64],
+        streams: [no_stream(); 64],
     }
 }
 

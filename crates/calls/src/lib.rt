@@ -1,6 +1,8 @@
 // The calls by id on single records: what a set-up or a frame makes of the record at an id's place.
 // The work on one record is `records`' and `shaper`'s; here stand the ids and the order of their refusals. A loop over
 // many calls keeps the tables as its own arrays and makes these calls, so that no table is copied for a frame.
+#![tactic(auto)]
+
 ghost use Rattle.std.specs.Prelude.{◌≡◌};
 ghost use Rattle.calls.specs.Calls.{judged_at, group_placed, stream_placed};
 ghost use Rattle.calls.specs.Numbers.{set_up_number};
@@ -10,20 +12,20 @@ use records::{Answer, Group, Stream};
 use setup::{GroupSetUp, StreamSetUp};
 use shaper::Judged;
 
-#[derive(Drop)]
+#[derive(Clone, Copy, Drop)]
 pub enum SetUp {
     Done,
     Refused(Refusal),
 }
 
 // The answer to a set-up, and the record at its place after it.
-#[derive(Drop)]
+#[derive(Clone, Copy, Drop)]
 pub struct PlacedGroup {
     pub answer: SetUp,
     pub group: Group,
 }
 
-#[derive(Drop)]
+#[derive(Clone, Copy, Drop)]
 pub struct PlacedStream {
     pub answer: SetUp,
     pub stream: Stream,

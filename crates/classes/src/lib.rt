@@ -1,6 +1,8 @@
 // The eight classes on lent arrays: what is sound, entering, and picking at a moment.
 // The places themselves are `places`' work, and which entry of a class goes first is found by `firsts`.
 // No frame is judged here, and when to pick is the caller's business.
+#![tactic(auto)]
+
 ghost use Rattle.std.specs.Prelude.{◌≡◌, ◌<◌};
 ghost use Rattle.places.specs.Queue.{classes, lists};
 ghost use Rattle.classes.specs.Soundness.{entry_sound, class_sound, all_sound};
@@ -10,20 +12,20 @@ use firsts::First;
 use places::{Entry, Picked, Waiting};
 use quantity::{Item, Refusal, Ticks};
 
-#[derive(Drop)]
+#[derive(Clone, Copy, Drop)]
 pub enum Entered {
     Done,
     Refused(Refusal),
 }
 
-#[derive(Drop)]
+#[derive(Clone, Copy, Drop)]
 pub struct AfterEnter {
     pub answer: Entered,
     pub waiting: Waiting,
 }
 
 // The class to pick from, and the place in it of the entry that goes first. Public for definitions of other crates.
-#[derive(Drop)]
+#[derive(Clone, Copy, Drop)]
 pub enum Due {
     From { class: u8, place: usize },
     NoneDue,

@@ -2,6 +2,8 @@
 // end, and the line that says which of the two failed. A call that only would have to wait, or was interrupted, is made
 // again. What the system reads and writes no contract can say: what is made of its answers is fixed, and handed back with
 // them. What a program reads for, and what it writes, is its own rooms'.
+#![tactic(auto)]
+
 ghost use Rattle.std.specs.Prelude.{◌≡◌, false, [], ◌∷◌, ◌+◌, ◌-◌, ◌≤◌, length};
 ghost use Rattle.text.specs.Decimal.{decimal};
 ghost use Rattle.text.specs.Puts.{joined, puts};
@@ -18,7 +20,7 @@ const INTERRUPTED: u32 = 4;
 const NOT_READY: u32 = 11;
 
 // What a reading brought: the system's answer and its error's number, and what is held after it.
-#[derive(Drop)]
+#[derive(Clone, Copy, Drop)]
 pub struct Came {
     pub got: isize,
     pub error: i32,
@@ -26,21 +28,21 @@ pub struct Came {
 }
 
 // How many bytes were written, and whether that is all of them.
-#[derive(Drop)]
+#[derive(Clone, Copy, Drop)]
 pub struct Sent {
     pub count: usize,
     pub whole: bool,
 }
 
 // Which of the two failed.
-#[derive(Drop)]
+#[derive(Clone, Copy, Drop)]
 pub enum Edge {
     Reading,
     Writing,
 }
 
 // What failed, after how many records and bytes.
-#[derive(Drop)]
+#[derive(Clone, Copy, Drop)]
 pub struct Failure {
     pub edge: Edge,
     pub records: u64,

@@ -1,6 +1,8 @@
 // What a run against a line does next: the stop, the next arrival, or the pick and its moment; and a stop's number.
 // It is decided from a list of arrivals, the moment the line is free, the smallest waiting time and what is left of the
 // budget and of the pick lists. Nothing is judged, entered or picked here.
+#![tactic(auto)]
+
 ghost use Rattle.std.specs.Prelude.{◌≡◌, max};
 ghost use Rattle.event.specs.Next.{arrives_by, next_event, step_for, arrival_step, pick_step, stop_number};
 
@@ -8,7 +10,7 @@ use firsts::Smallest;
 use quantity::{Item, Refusal, Ticks};
 
 // Why a run stopped. A refused run did nothing.
-#[derive(Drop)]
+#[derive(Clone, Copy, Drop)]
 pub enum Stop {
     // No arrival is left and nothing waits.
     Done,
@@ -21,7 +23,7 @@ pub enum Stop {
 }
 
 // What a run does next. Public for definitions of other crates.
-#[derive(Drop)]
+#[derive(Clone, Copy, Drop)]
 pub enum Step {
     Ends(Stop),
     Arrival,

@@ -1,6 +1,8 @@
 // Runs the figures of document 01 that are not marked P, each number of 'Numbers returned' at least once, and the examples of
 // source document 000, figures 1 and 3, in our units. Each line says what was tried and the numbers that came; the file `stdout`
 // beside it has them as the documents do. (The ends of the ranges and the orders of the refusals are theorems in `cases`.)
+#![tactic(auto)]
+
 ghost use Rattle.std.specs.Prelude.{◌≡◌, ◌≤◌};
 ghost use Rattle.waiting.specs.Answers.{entered_number, picked_number};
 

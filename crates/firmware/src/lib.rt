@@ -1,5 +1,7 @@
 // What C calls, over numbers and over records that C can name: include/aldurretx.h says how they look from there.
 // Ids, classes and octets come as wide numbers, and what does not fit its field is refused as out of range, not wrapped.
+#![tactic(auto)]
+
 ghost use Rattle.std.specs.Prelude.{◌≡◌, min};
 ghost use Rattle.calls.specs.Calls.{group_placed, stream_placed};
 ghost use Rattle.quantity.specs.Numbers.{number_of};
@@ -15,7 +17,7 @@ use records::{Answer, Group, Moment, Regulator, Stream, answer_number};
 
 // A group's record, as C lends it.
 #[repr(C)]
-#[derive(Drop)]
+#[derive(Clone, Copy, Drop)]
 pub struct GroupRecord {
     // Whether the group is set up.
     pub used: bool,
@@ -29,7 +31,7 @@ pub struct GroupRecord {
 
 // A stream's record, as C lends it: an exported call takes no enum.
 #[repr(C)]
-#[derive(Drop)]
+#[derive(Clone, Copy, Drop)]
 pub struct StreamRecord {
     // Whether the stream is set up.
     pub used: bool,
@@ -43,20 +45,20 @@ pub struct StreamRecord {
 }
 
 // The number of a set-up, and the record after it.
-#[derive(Drop)]
+#[derive(Clone, Copy, Drop)]
 pub struct GroupTold {
     pub number: u8,
     pub group: GroupRecord,
 }
 
-#[derive(Drop)]
+#[derive(Clone, Copy, Drop)]
 pub struct StreamTold {
     pub number: u8,
     pub stream: StreamRecord,
 }
 
 // The number of a frame's answer, what the caller's eligibility time then is, and the records after it.
-#[derive(Drop)]
+#[derive(Clone, Copy, Drop)]
 pub struct FrameTold {
     pub number: u8,
     pub time: u64,

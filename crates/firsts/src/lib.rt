@@ -1,5 +1,7 @@
 // Which entry goes first: the one of a class, and the smallest time at which any entry waits.
 // The arrays are looked at only; whether that entry is due is the caller's business.
+#![tactic(auto)]
+
 ghost use Rattle.std.specs.Prelude.{◌≡◌, ◌*◌, ◌-◌, ◌≤◌};
 ghost use Rattle.places.specs.Queue.{classes, places, count_of};
 ghost use Rattle.firsts.specs.Firsts.{first_of, smaller, smallest_of};
@@ -7,14 +9,14 @@ ghost use Rattle.firsts.specs.Firsts.{first_of, smaller, smallest_of};
 use quantity::Ticks;
 
 // Which of a class's entries goes first: its place in the class, counted from 0 in order of entering, and its time.
-#[derive(Drop)]
+#[derive(Clone, Copy, Drop)]
 pub enum First {
     At { place: usize, time: Ticks },
     NoEntry,
 }
 
 // The smallest time at which any entry waits.
-#[derive(Drop)]
+#[derive(Clone, Copy, Drop)]
 pub enum Smallest {
     Time(Ticks),
     NothingWaits,

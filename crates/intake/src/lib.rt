@@ -1,12 +1,14 @@
 // Input that comes in parts, for every program that reads one: what of it stands in a lent buffer, what a reading
 // brought, and what comes after a turn; and what a whole session of turns and readings gives (specs/Sessions).
 // What a turn does with the bytes is the program's own room's. To read and to write is `console`'s.
+#![tactic(auto)]
+
 ghost use Rattle.std.specs.Prelude.{◌≡◌, cond, ◌+◌, ◌-◌, ◌≤◌, min, length};
 ghost use Rattle.intake.specs.declared.Told.TheVariants.{More, Ended, Failed};
 ghost use Rattle.intake.specs.Holding.{nothing_held, is_within, came_in, brought_kept, kept_for};
 
 // What the last reading said of the input.
-#[derive(Drop)]
+#[derive(Clone, Copy, Drop)]
 pub enum Told {
     // There may be more of it.
     More,
@@ -17,7 +19,7 @@ pub enum Told {
 }
 
 // What comes after a turn, once its bytes are written.
-#[derive(Drop)]
+#[derive(Clone, Copy, Drop)]
 pub enum Next {
     // A turn more, with the same input.
     GoesOn,
@@ -30,7 +32,7 @@ pub enum Next {
 }
 
 // What of the input stands in the buffer and is still to be used: from the one place up to the other.
-#[derive(Drop)]
+#[derive(Clone, Copy, Drop)]
 pub struct Held {
     pub place: usize,
     pub filled: usize,
@@ -50,7 +52,7 @@ pub fn nothing() -> Held
 }
 
 // Whether the bytes that are held are in a buffer of so many bytes.
-pub fn is_within_law(held: Held, size: usize) -> bool
+pub fn is_within(held: Held, size: usize) -> bool
     ensures { result ≡ is_within held size }
 {
     if held.filled < held.place {

@@ -1,5 +1,7 @@
 // The interrupt side's decisions, by value: whether a lent run of stream records can be worked in, and what a frame is by
 // the lent group's record. The calls that rewrite lent records stand above and only carry.
+#![tactic(auto)]
+
 ghost use Rattle.std.specs.Prelude.{◌≡◌};
 ghost use Rattle.lent.specs.InPlace.{judged_in};
 ghost use Rattle.lent.specs.Steps.{ready, unreadiness};

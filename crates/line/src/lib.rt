@@ -2,6 +2,8 @@
 // entry that goes first leaves for the line. Which is next is `event`'s, judging `bridge`'s, putting and taking out
 // `places`', the first of a class `firsts`'. Tables and queues stand in the run's own arrays, with the first of each class:
 // no event copies a table.
+#![tactic(auto)]
+
 ghost use Rattle.std.specs.Prelude.{◌≡◌, true, ◌<◌, ◌≤◌, min, length, set};
 ghost use Rattle.quantity.specs.Ranges.{in_range, most_of};
 ghost use Rattle.records.specs.ExactTime.{bit_time};
@@ -26,13 +28,13 @@ const LAST_CLASS: usize = quantity::MOST_CLASS as usize;
 const NEVER: u64 = 18_446_744_073_709_551_615;
 
 // What is handed to the queue. Public for definitions of other crates.
-#[derive(Drop)]
+#[derive(Clone, Copy, Drop)]
 pub struct Handed {
     pub class: u8,
     pub entry: Entry,
 }
 
-#[derive(Drop)]
+#[derive(Clone, Copy, Drop)]
 pub struct Ran {
     pub stop: Stop,
     // The place of the next arrival.
@@ -46,7 +48,7 @@ pub struct Ran {
 }
 
 // What the tests of a run's arguments say. Public for definitions of other crates.
-#[derive(Drop)]
+#[derive(Clone, Copy, Drop)]
 pub enum Start {
     Runs,
     NotRun(Refusal),

@@ -1,6 +1,8 @@
 // The listing of a table file: reads it from standard input, and writes a line for each record and an end line.
 // What a turn lists, and what comes after it, is `listing_turn`'s, and proved there; to read and to write is `console`'s.
 // Here is the loop, which makes each turn where the one before it and the reading after that have left the listing.
+#![tactic(auto)]
+
 ghost use Rattle.std.specs.Prelude.{◌≡◌, length};
 ghost use Rattle.intake.specs.Holding.{Within};
 ghost use Rattle.listing_turn.specs.Turns.{with_held, turn_made};

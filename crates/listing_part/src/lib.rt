@@ -1,6 +1,8 @@
 // What a record of the table file does to the tables, and the listing of a part of a file.
 // Reading a record is `reader`'s, the calls are `calls`'s, the text of a line is `listing_text`'s. Input and output live with
 // the programs. The loop keeps the tables as its own arrays, so that no table is copied for a record.
+#![tactic(auto)]
+
 ghost use Rattle.std.specs.Prelude.{◌≡◌};
 ghost use Rattle.calls.specs.Calls.{group_placed, stream_placed, judged_at};
 ghost use Rattle.listing_part.specs.Records.{call_of};
@@ -16,7 +18,7 @@ use tablefile::{Reading, Record};
 
 // What a record's call answers, and the stream and the group that it looked at, as it leaves them. Public, with the type
 // that follows, for definitions of other crates.
-#[derive(Drop)]
+#[derive(Clone, Copy, Drop)]
 pub struct Carried {
     pub answer: Answered,
     pub stream: Stream,
@@ -24,14 +26,14 @@ pub struct Carried {
 }
 
 // What the listing does next: it ends with what the reader gave, or carries out a record; `next` is the place after it.
-#[derive(Drop)]
+#[derive(Clone, Copy, Drop)]
 pub enum Step {
     Ends(Reading),
     Goes { record: Record, next: usize },
 }
 
 // The listing of a part of a file.
-#[derive(Drop)]
+#[derive(Clone, Copy, Drop)]
 pub struct Listed {
     // The tables after the records that have their lines.
     pub bridge: Bridge,

@@ -1,5 +1,7 @@
 // The text of the listing in lent bytes: the line of a record, and what ends a listing.
 // Decimal numbers are `text`'s; which answer a line shows is `listing_part`'s.
+#![tactic(auto)]
+
 ghost use Rattle.std.specs.Prelude.{◌≡◌, [], ◌∷◌, ◌++◌, ◌+◌, ◌≤◌, ◌<◌, leb, length, get_or};
 ghost use Rattle.quantity.specs.Numbers.{number_of};
 ghost use Rattle.text.specs.Decimal.{decimal};
@@ -20,21 +22,21 @@ pub const END_ROOM: usize = 25;
 pub const MOST_LINES: u64 = 18_446_744_073_709_551_615;
 
 // The last column of a line.
-#[derive(Drop)]
+#[derive(Clone, Copy, Drop)]
 pub enum Shown {
     Time(Ticks),
     Dash,
 }
 
 // What a line shows of a call: document 01's number, and T where there is one.
-#[derive(Drop)]
+#[derive(Clone, Copy, Drop)]
 pub struct Answered {
     pub number: u8,
     pub time: Shown,
 }
 
 // Whether so many bytes, from a place on, have so much room.
-fn has_room_law(len: usize, at: usize, room: usize) -> bool
+fn has_room(len: usize, at: usize, room: usize) -> bool
     ensures { result ≡ leb (at + room) len }
 {
     if len < at {

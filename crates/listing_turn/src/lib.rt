@@ -1,6 +1,8 @@
 // One turn of the listing of a table file that comes in parts: lists what stands in the input buffer as far as the
 // output buffer has room, puts what ends the listing where it ends, and says what comes next.
 // The lines are `listing_part`'s and `listing_text`'s, the buffer's bytes `intake`'s; to read and to write is `console`'s.
+#![tactic(auto)]
+
 ghost use Rattle.std.specs.Prelude.{◌≡◌, length};
 ghost use Rattle.intake.specs.Holding.{Within};
 ghost use Rattle.listing_turn.specs.Turns.{unended, closing, at_edge, next_of, end_put_if, begun_listing, held_listed, turn_made};
@@ -11,7 +13,7 @@ use quantity::Refusal;
 use tablefile::Reading;
 
 // Where a listing stands.
-#[derive(Drop)]
+#[derive(Clone, Copy, Drop)]
 pub struct Standing {
     pub bridge: Bridge,
     // The lines so far, and the bytes of their records, modulo 2^64.
@@ -22,7 +24,7 @@ pub struct Standing {
 }
 
 // What a turn did: so many bytes at the front of the output buffer are to be written.
-#[derive(Drop)]
+#[derive(Clone, Copy, Drop)]
 pub struct Turned {
     pub standing: Standing,
     pub written: usize,

@@ -1,6 +1,8 @@
 // The places of the classes, on lent arrays of numbers: how a class stands in them, an entry put last into a class, and one
 // taken out of it.
 // What an entry holds is not tested here, and which entry leaves is the caller's business.
+#![tactic(auto)]
+
 ghost use Rattle.std.specs.Prelude.{◌≡◌, ◌<◌, ◌≤◌, get_or};
 ghost use Rattle.places.specs.Queue.{all_places, lists};
 ghost use Rattle.places.specs.Places.{put_gives, closed, take_gives};
@@ -17,7 +19,7 @@ pub const PLACES: usize = 32;
 pub const FULL: u8 = PLACES as u8;
 
 // The entries of class c stand from place 32·c on, in order of entering; as many as its fill says.
-#[derive(Drop)]
+#[derive(Clone, Copy, Drop)]
 pub struct Waiting {
     pub times: [u64; 256],
     pub handles: [u32; 256],
@@ -26,14 +28,14 @@ pub struct Waiting {
 }
 
 // A frame that waits: its handle, its eligibility time and its charged bits.
-#[derive(Drop)]
+#[derive(Clone, Copy, Drop)]
 pub struct Entry {
     pub handle: u32,
     pub time: Ticks,
     pub bits: Bits,
 }
 
-#[derive(Drop)]
+#[derive(Clone, Copy, Drop)]
 pub enum Picked {
     // The entry that leaves, and its class.
     Leaves { class: u8, entry: Entry },
@@ -42,7 +44,7 @@ pub enum Picked {
     Refused(Refusal),
 }
 
-#[derive(Drop)]
+#[derive(Clone, Copy, Drop)]
 pub struct AfterPick {
     pub answer: Picked,
     pub waiting: Waiting,

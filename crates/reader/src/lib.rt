@@ -1,5 +1,7 @@
 // The reader of one record of the table file.
 // The records, their marks and their sizes are `tablefile`'s. Input lives with the programs.
+#![tactic(auto)]
+
 ghost use Rattle.std.specs.Prelude.{◌≡◌, ◌+◌, ◌≤◌, length, drop, get_or};
 ghost use Rattle.tablefile.specs.BigEndian.{number_at};
 ghost use Rattle.tablefile.specs.Layout.{GR, GD, ST, FR, mark_width};

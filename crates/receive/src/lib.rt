@@ -1,5 +1,7 @@
 // The interrupt side: a frame judged where its records stand, in one lent group's record and a lent run of 64 stream
 // records. Every decision is `lent`'s and `shaper`'s; the call here only carries.
+#![tactic(auto)]
+
 ghost use Rattle.std.specs.Prelude.{◌≡◌};
 ghost use Rattle.lent.specs.InPlace.{received};
 

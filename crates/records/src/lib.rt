@@ -1,5 +1,7 @@
 // The records of a group and of a stream: what they hold, and what becomes of a frame by them. Their set-up is
 // `setup`'s, how a frame is judged by a record `shaper`'s; tables of records are `bridge`'s.
+#![tactic(auto)]
+
 mod sound;
 
 ghost use Rattle.std.specs.Prelude.{◌≡◌};
@@ -10,13 +12,13 @@ pub use sound::sound_group;
 
 // An exact time, of either sign, of a stream of rate r: whole ticks, rounded towards minus infinity, and a remainder
 // below r, counted in r-ths of a tick.
-#[derive(Drop)]
+#[derive(Clone, Copy, Drop)]
 pub struct Moment {
     pub ticks: i64,
     pub part: u64,
 }
 
-#[derive(Drop)]
+#[derive(Clone, Copy, Drop)]
 pub struct Group {
     // Whether the group is set up.
     pub used: bool,
@@ -31,14 +33,14 @@ pub struct Group {
 }
 
 // What decides how soon a stream may send again. A stream that is not set up is `Unset`.
-#[derive(Drop)]
+#[derive(Clone, Copy, Drop)]
 pub enum Regulator {
     Unset,
     // A bucket of so many bits, and the bucket empty time E.
     Bucket { burst: Bits, empty: Moment },
 }
 
-#[derive(Drop)]
+#[derive(Clone, Copy, Drop)]
 pub struct Stream {
     pub group: u8,
     pub rate: Rate,
@@ -46,7 +48,7 @@ pub struct Stream {
 }
 
 // What becomes of a frame, with its eligibility time T.
-#[derive(Drop)]
+#[derive(Clone, Copy, Drop)]
 pub enum Answer {
     Released(Ticks),
     Discarded(Ticks),

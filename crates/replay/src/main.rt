@@ -3,6 +3,8 @@
 // there is none), and prints each frame's answer, each pick and how the run stopped. What a turn of the reading gathers,
 // what the run does and what is told of it is `replay_turn`'s, `line`'s and `replay_account`'s, and proved there; to read
 // and to write is `console`'s. Here are the arguments, the lists and the two loops.
+#![tactic(auto)]
+
 ghost use Rattle.std.specs.Prelude.{◌≡◌, ◌≤◌, true, false, length};
 ghost use Rattle.intake.specs.Holding.{Within};
 ghost use Rattle.replay_text.specs.Lines.{line_room, text_of};

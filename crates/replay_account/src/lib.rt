@@ -1,6 +1,8 @@
 // The account of a run in parts: which lines there are to tell, and as many of them in lent bytes as have room.
 // The run is `line`'s, the text of a line `replay_text`'s, and what a session of parts gives `intake`'s. Input and output
 // live with the programs.
+#![tactic(auto)]
+
 ghost use Rattle.std.specs.Prelude.{◌≡◌, ◌&&◌, min, ltb, leb, length};
 ghost use Rattle.replay_text.specs.Lines.{line_room};
 ghost use Rattle.replay_account.specs.Account.{account_of, part_put};
@@ -13,7 +15,7 @@ use quantity::Ticks;
 use replay_text::Line;
 
 // What there is to tell of a run: the answers to so many frames, so many picks, and how it stopped.
-#[derive(Drop)]
+#[derive(Clone, Copy, Drop)]
 pub struct Account {
     pub frames: usize,
     pub picks: usize,
@@ -22,7 +24,7 @@ pub struct Account {
 
 // A part of an account: so many bytes at the front of the lent ones, the number of the next line, and what comes after
 // this part.
-#[derive(Drop)]
+#[derive(Clone, Copy, Drop)]
 pub struct Part {
     pub line: usize,
     pub written: usize,

@@ -1,6 +1,8 @@
 // A table file read into a bridge and lists of arrivals, part by part.
 // Reading a record is `reader`'s, setting up is `bridge`'s, the run itself `line`'s. Input and output live with the
 // programs.
+#![tactic(auto)]
+
 ghost use Rattle.std.specs.Prelude.{◌≡◌};
 ghost use Rattle.replay_gathering.specs.Gathering.{has_room, task_of, task_for, gather_from, begun};
 ghost use Rattle.replay_gathering.specs.Steps.{task_after, stream_of, group_of, prepared_by};
@@ -12,7 +14,7 @@ use records::{Group, Stream};
 use tablefile::{Reading, Record};
 
 // Why a gathering ended.
-#[derive(Drop)]
+#[derive(Clone, Copy, Drop)]
 pub enum End {
     // No byte is left.
     NothingLeft,
@@ -25,7 +27,7 @@ pub enum End {
 }
 
 // A set-up that a record asks for. Public, with the two types that follow, for definitions of other crates.
-#[derive(Drop)]
+#[derive(Clone, Copy, Drop)]
 pub enum Wanted {
     Group {
         group: u8,
@@ -41,7 +43,7 @@ pub enum Wanted {
 }
 
 // What a record asks for, and the place after it.
-#[derive(Drop)]
+#[derive(Clone, Copy, Drop)]
 pub enum Task {
     Ends(End),
     Sets {
@@ -57,7 +59,7 @@ pub enum Task {
 }
 
 // What a set-up answers, and the stream and the group that it looked at, as it leaves them.
-#[derive(Drop)]
+#[derive(Clone, Copy, Drop)]
 pub struct Prepared {
     pub answer: SetUp,
     pub stream: Stream,
@@ -65,7 +67,7 @@ pub struct Prepared {
 }
 
 // What a gathering gives beside the lists.
-#[derive(Drop)]
+#[derive(Clone, Copy, Drop)]
 pub struct Gathered {
     pub why: End,
     // The place where it ended.
@@ -78,7 +80,7 @@ pub struct Gathered {
 }
 
 // Whether each of the three lists, of so many places, has a place for one arrival more.
-fn has_room_law(count: usize, arrivals: usize, ids: usize, octets: usize) -> bool
+fn has_room(count: usize, arrivals: usize, ids: usize, octets: usize) -> bool
     ensures { result ≡ has_room count arrivals ids octets }
 {
     if count >= arrivals {
@@ -162,7 +164,7 @@ fn next_task(reading: Reading, room: bool, answer: SetUp) -> Task
 }
 
 // The place of the stream that a set-up looks at. A group's looks at none, and leaves stream 0.
-fn stream_at_law(wanted: Wanted) -> usize
+fn stream_at(wanted: Wanted) -> usize
     ensures { result ≡ stream_of wanted }
 {
     match wanted {
@@ -172,7 +174,7 @@ fn stream_at_law(wanted: Wanted) -> usize
 }
 
 // The place of the group that it looks at.
-fn group_at_law(wanted: Wanted) -> usize
+fn group_at(wanted: Wanted) -> usize
     ensures { result ≡ group_of wanted }
 {
     match wanted {
@@ -238,7 +240,7 @@ pub fn gather_part(
     // What the set-up answered that was just made; else none was refused.
     let mut answer = SetUp::Done;
     loop {
-        let room = has_room_law(count, arrivals.len(), ids.len(), octets.len());
+        let room = has_room(count, arrivals.len(), ids.len(), octets.len());
         let reading = reader::read(bytes, at);
         let task = next_task(reading, room, answer);
         match task {
@@ -252,8 +254,8 @@ pub fn gather_part(
                 };
             }
             Task::Sets { wanted, next } => {
-                let place = stream_at_law(wanted);
-                let of = group_at_law(wanted);
+                let place = stream_at(wanted);
+                let of = group_at(wanted);
                 let prepared = prepare(wanted, streams[place], groups[of]);
                 let stream = prepared.stream;
                 let group = prepared.group;

@@ -1,6 +1,8 @@
 // The account of a run: the lines that a replay prints, and what it says of the records that it reads, put into lent
 // bytes. Decimal numbers are `text`'s; the run that the lines tell of is `line`'s. Input and output live with the
 // programs.
+#![tactic(auto)]
+
 ghost use Rattle.std.specs.Prelude.{◌≡◌, [], ◌∷◌};
 ghost use Rattle.text.specs.Decimal.{decimal};
 ghost use Rattle.text.specs.Places.{placed};
@@ -14,7 +16,7 @@ use quantity::Ticks;
 pub const LINE_ROOM: usize = 116;
 
 // A line of the account.
-#[derive(Drop)]
+#[derive(Clone, Copy, Drop)]
 pub enum Line {
     // `PLACE NUMBER`: the answer to the frame at a place of the lists.
     Answer {
@@ -39,7 +41,7 @@ pub enum Line {
 }
 
 // What a replay says on standard error of a record, one line or nothing.
-#[derive(Drop)]
+#[derive(Clone, Copy, Drop)]
 pub enum Note {
     Nothing,
     // `record N: set-up refused, NUMBER`

@@ -1,6 +1,8 @@
 // One turn of the reading of a table file for a replay: gathers what stands in the input buffer, puts what is to be said
 // of its records, and says what comes next. Gathering is `replay_gathering`'s, the text `replay_text`'s, the buffer's
 // bytes `intake`'s; to read and to write is the program's.
+#![tactic(auto)]
+
 ghost use Rattle.std.specs.Prelude.{◌≡◌, ◌<◌};
 ghost use Rattle.text.specs.Numeral.{most};
 ghost use Rattle.replay_turn.specs.Turns.{at_edge, next_of, unread_note, note_of, is_end, whole_by, countable, is_ready, begun_reading, turn_made};
@@ -15,7 +17,7 @@ use replay_text::Note;
 const MOST: u64 = 18_446_744_073_709_551_615;
 
 // Where the reading stands.
-#[derive(Drop)]
+#[derive(Clone, Copy, Drop)]
 pub struct Standing {
     pub bridge: Bridge,
     // The records so far, and their bytes.
@@ -30,7 +32,7 @@ pub struct Standing {
 }
 
 // What a turn did: so many bytes at the front of the notes are to be written.
-#[derive(Drop)]
+#[derive(Clone, Copy, Drop)]
 pub struct Turned {
     pub standing: Standing,
     pub written: usize,

@@ -1,5 +1,7 @@
 // Set-up of one record: what is out of range is refused, and buckets start full. That an id is out of range or already
 // set up is for the calls by id to say.
+#![tactic(auto)]
+
 ghost use Rattle.std.specs.Prelude.{◌≡◌, true, ◌+◌, ◌*◌, ◌<◌, ◌^◌, pos, neg_ℤ};
 ghost use Rattle.quantity.specs.Ranges.{in_range};
 ghost use Rattle.records.specs.ExactTime.{moment_of};
@@ -8,13 +10,13 @@ ghost use Rattle.setup.specs.SetUp.{fresh_stream, group_set_up, stream_set_up};
 use quantity::{Bits, Item, Rate, Refusal, TICKS_PER_SECOND, Ticks, in_range};
 use records::{Group, Moment, Regulator, Stream, sound_group};
 
-#[derive(Drop)]
+#[derive(Clone, Copy, Drop)]
 pub enum GroupSetUp {
     Done(Group),
     Refused(Refusal),
 }
 
-#[derive(Drop)]
+#[derive(Clone, Copy, Drop)]
 pub enum StreamSetUp {
     Done(Stream),
     Refused(Refusal),

@@ -1,5 +1,7 @@
 // The shaper core: one frame, one stream, one group, by value, exactly as the standard's ProcessFrame has it.
 // Exact time and `judge` live here; the records and the tests before judging stand below, tables, queues and files above.
+#![tactic(auto)]
+
 mod exact;
 mod frame;
 
@@ -7,14 +9,14 @@ pub use frame::judge;
 use records::{Answer, Group, Stream};
 
 // An exact length of time, of a stream of rate r: whole ticks, and a remainder below r, counted in r-ths of a tick.
-#[derive(Drop)]
+#[derive(Clone, Copy, Drop)]
 pub struct Span {
     pub ticks: u64,
     pub part: u64,
 }
 
 // The answer to a frame, and its stream's and its group's record after it.
-#[derive(Drop)]
+#[derive(Clone, Copy, Drop)]
 pub struct Judged {
     pub answer: Answer,
     pub stream: Stream,

@@ -2,13 +2,15 @@
 // writing can answer.
 // Reading a record is `reader`'s, and writing it `writer`'s. Every field value is taken as it stands; whether a group, a
 // stream or a frame is within its ranges is for set-up and judging to say, in the crates that know them.
+#![tactic(auto)]
+
 ghost use Rattle.std.specs.Prelude.{◌≡◌};
 ghost use Rattle.tablefile.specs.Layout.{mark, kind_of};
 ghost use Rattle.tablefile.specs.Answers.{reading_number, written_number};
 
 use quantity::{Rate, Refusal, Ticks};
 
-#[derive(Drop)]
+#[derive(Clone, Copy, Drop)]
 pub enum Record {
     // GR
     Group {
@@ -37,7 +39,7 @@ pub enum Record {
 }
 
 // What the reader finds at a place.
-#[derive(Drop)]
+#[derive(Clone, Copy, Drop)]
 pub enum Reading {
     // A record, and the place after it.
     Found { record: Record, next: usize },
@@ -46,7 +48,7 @@ pub enum Reading {
 }
 
 // What the writer did.
-#[derive(Drop)]
+#[derive(Clone, Copy, Drop)]
 pub enum Written {
     // So many bytes stand at the front of the lent part.
     Bytes(usize),

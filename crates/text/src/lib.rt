@@ -1,6 +1,8 @@
 // Text in lent bytes: a text or a decimal number is put at a place, where it fits, and the next place comes
 // back; and a decimal number is read from lent bytes. The programs' lines are made of these. No file and no record
 // lives here.
+#![tactic(auto)]
+
 ghost use Rattle.std.specs.Prelude.{◌≡◌, [], ◌∷◌, ◌+◌, ◌-◌, ◌*◌, ◌≤◌, ◌<◌, min, length};
 ghost use Rattle.std.proofs.lemmas.List.Edits.{sets};
 ghost use Rattle.text.specs.Decimal.{last_digits, digit_count, decimal};
@@ -12,7 +14,7 @@ ghost use Rattle.text.specs.Numeral.{most, is_digit, numeral_of};
 const MOST: u64 = 18_446_744_073_709_551_615;
 
 // What lent bytes say as a decimal number. A number above the largest of 64 bits is taken as that one.
-#[derive(Drop)]
+#[derive(Clone, Copy, Drop)]
 pub enum Numeral {
     Is(u64),
     NoNumber,

@@ -1,5 +1,7 @@
 // The calls on a whole `Waiting`, by value: nothing waits, an entry enters, and the pick at a moment.
 // They are thin over the calls in place of `classes`; what is promised of entering and picking stands here, too.
+#![tactic(auto)]
+
 ghost use Rattle.std.specs.Prelude.{◌≡◌};
 ghost use Rattle.places.specs.Queue.{nothing};
 ghost use Rattle.classes.specs.Calls.{enter_gives, pick_gives};

@@ -1,5 +1,7 @@
 // The writer of one record of the table file.
 // The records, their marks and their sizes are `tablefile`'s. Output lives with the programs.
+#![tactic(auto)]
+
 ghost use Rattle.std.specs.Prelude.{◌≡◌, [], ◌∷◌, ◌+◌, ◌≤◌, length, get_or};
 ghost use Rattle.std.proofs.lemmas.List.Edits.{sets};
 ghost use Rattle.tablefile.specs.BigEndian.{big_endian};

@@ -1,0 +1,45 @@
+-- `intake::keep_for` meets its contract: what is held is not in the buffer, or it goes by what comes next. Assumes nothing.
+use mathlib.Core.Path.{sym, ap, ◌∙◌}
+use lib.ListN.{length}
+use borrow.Author.Rules.{rules}
+use Rattle.quantity.proofs.Booleans.{refuted, confirmed}
+use Rattle.intake.specs.declared.Next.{Next}
+use Rattle.intake.specs.Holding.{Within, kept_for, as_it_was}
+use Rattle.intake.proofs.Promises.{is_within_law, unmoved, brought}
+use Rattle.intake.proofs.keep_for.Goals as goal
+
+pub returns-then-not-is_within : goal.returns-then-not-is_within
+unfolding as_it_was
+returns-then-not-is_within c =
+    let w = c in
+    let a = w.args in
+    unmoved a.next a.held a.bytes.now (refuted w.is_within.ensures c.if-not-is_within.true)
+
+pub keep-requires : goal.keep-requires
+keep-requires c = let w = (let a = c.args in is_within_law a.held (length a.bytes.now) (confirmed c.is_within.ensures c.if-not-is_within.false)) in (w.ahead, w.inside)
+
+pub returns-in-GoesOn : goal.returns-in-GoesOn
+unfolding kept_for as_it_was
+returns-in-GoesOn c =
+    let a = c.args in
+    sym (ap (λ (x : Next). kept_for x a.held a.bytes.now) c.in-GoesOn.is)
+
+pub returns-in-Reads : goal.returns-in-Reads
+returns-in-Reads c =
+    let k = c in
+    let e = k in
+    let i = e in
+    let a = i.args in
+    k.keep.ensures ∙ sym (brought a.held a.bytes.now (let a = c.args in is_within_law a.held (length a.bytes.now) (confirmed c.is_within.ensures c.if-not-is_within.false))) ∙ sym (ap (λ (x : Next). kept_for x a.held a.bytes.now) e.in-Reads.is)
+
+pub returns-in-Ends : goal.returns-in-Ends
+unfolding kept_for as_it_was
+returns-in-Ends c =
+    let a = c.args in
+    sym (ap (λ (x : Next). kept_for x a.held a.bytes.now) c.in-Ends.is)
+
+pub returns-in-Fails : goal.returns-in-Fails
+unfolding kept_for as_it_was
+returns-in-Fails c =
+    let a = c.args in
+    sym (ap (λ (x : Next). kept_for x a.held a.bytes.now) c.in-Fails.is)

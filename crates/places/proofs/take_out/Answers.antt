@@ -1,0 +1,19 @@
+-- `places::take_out` meets its contract. Assumes nothing.
+use native.Mathlib.Omega.{arith}
+use Rattle.places.proofs.Calls.{take_nowhere, take_overfull, take_none, take_done}
+use Rattle.places.proofs.take_out.Goals as goal
+
+pub returns-then-class-gt-LAST_CLASS : goal.returns-then-class-gt-LAST_CLASS
+returns-then-class-gt-LAST_CLASS c = take_nowhere _ _ _ (omega arith)
+
+pub returns-then-n-gt-FULL : goal.returns-then-n-gt-FULL
+returns-then-n-gt-FULL c = take_overfull _ _ _ (omega arith) (omega arith)
+
+pub returns-then-place-n : goal.returns-then-place-n
+returns-then-place-n c = take_none _ _ _ (omega arith) (omega arith) (omega arith)
+
+pub returns : goal.returns
+returns c =
+    let h = c in
+    let t = h in
+    take_done _ _ _ (omega arith) (omega arith) _ _ _ _ _ _ (omega arith) t.close_up-time.ensures h.close_up_handles-handle.ensures c.close_up-charge.ensures

@@ -1,0 +1,20 @@
+-- `reader::read_stream` meets its contract: the length decides, and the fields stand where the layout has them.
+-- Assumes nothing.
+use borrow.Author.Rules.{rules}
+use native.Mathlib.Omega.{arith}
+use Rattle.tablefile.specs.Layout.{ST, total, size}
+use Rattle.reader.proofs.FieldsRead.{cut_short, found}
+use Rattle.reader.proofs.read_stream.Goals as goal
+
+pub returns-then-bytes-place-lt-STREAM_BYTES : goal.returns-then-bytes-place-lt-STREAM_BYTES
+unfolding total size
+returns-then-bytes-place-lt-STREAM_BYTES c =
+    let a = c.args in
+    cut_short ST a.bytes.now a.place (omega arith) (omega arith)
+
+pub returns : goal.returns
+unfolding total size
+returns c =
+    let a = c.args in
+    rw (c.number8.ensures, c.number8-2.ensures, c.number64.ensures, c.number32.ensures)
+    (found ST a.bytes.now a.place (omega arith))

@@ -1,0 +1,13 @@
+-- `text::put_field` meets its contract. Assumes nothing.
+use mathlib.Core.Path.{◌∙◌}
+use mathlib.Core.List.{[], ◌∷◌}
+use Rattle.text.specs.Puts.{puts}
+use Rattle.text.proofs.Putting.{and_then}
+use Rattle.text.proofs.put_field.Goals as goal
+
+pub returns : goal.returns
+unfolding puts
+returns c =
+    let d = c in
+    let t = d in
+    d.put_decimal.ensures ∙ and_then (_ ∷ []) (_ ∷ []) _ _ _ _ t.put_text-after.ensures
