@@ -341,3 +341,88 @@ pub fn tell_failure<W: Write>(out: &mut W, failure: Failure, error: i32) -> usiz
     say_why(out, &line[..n], error);
     n
 }
+
+#[cfg(test)]
+mod tests {
+    use super::*;
+    use std::test::Fail;
+
+    // A reader that is interrupted, then has to wait, and then has gone.
+    #[derive(Drop)]
+    struct Worse {
+        calls: u8,
+    }
+
+    impl Read for Worse {
+        fn read(&mut self, _buf: &mut [u8]) -> io::Result<usize> {
+            let number = match self.calls {
+                0 => 4,
+                1 => 11,
+                _ => 5,
+            };
+            self.calls = self.calls.saturating_add(1);
+            Err(io::Error::from_raw_os_error(number))
+        }
+    }
+
+    // A writer that takes three bytes and then has no more room.
+    #[derive(Drop)]
+    struct Small {
+        room: usize,
+    }
+
+    impl Write for Small {
+        fn write(&mut self, buf: &[u8]) -> io::Result<usize> {
+            if self.room == 0 {
+                return Err(io::Error::from_raw_os_error(28));
+            }
+            let n = buf.len().min(self.room);
+            self.room -= n;
+            Ok(n)
+        }
+
+        fn flush(&mut self) -> io::Result<()> {
+            Ok(())
+        }
+    }
+
+    #[test]
+    fn failures_are_told(rt: HostRuntime) -> Result<(), Fail> {
+        let mut said = Vec::new(rt.alloc());
+        let failure = Failure {
+            edge: Edge::Reading,
+            records: 3,
+            bytes: 44,
+        };
+        tell_failure(&mut said, failure, 21);
+        tell_failure(&mut said, failure, 0);
+        let line =
+            b"failed: reading after 3 records, 44 bytes: Is a directory\nfailed: reading after 3 records, 44 bytes: Success\n";
+        assert_eq!(rt; said.as_slice(), line.as_slice());
+        Ok(())
+    }
+
+    #[test]
+    fn a_reading_that_waits_is_made_again(rt: HostRuntime) {
+        let mut input = Worse { calls: 0 };
+        let mut bytes = [0u8; 8];
+        let interrupted = read_behind(&mut input, &mut bytes, intake::nothing());
+        assert_eq!(rt; interrupted.error, 4);
+        assert!(rt; matches!(interrupted.held.told, intake::Told::More));
+        let waited = read_behind(&mut input, &mut bytes, interrupted.held);
+        assert_eq!(rt; waited.error, 11);
+        assert!(rt; matches!(waited.held.told, intake::Told::More));
+        let gone = read_behind(&mut input, &mut bytes, waited.held);
+        assert_eq!(rt; gone.error, 5);
+        assert!(rt; matches!(gone.held.told, intake::Told::Failed));
+    }
+
+    #[test]
+    fn a_writing_stops_where_there_is_no_room(rt: HostRuntime) {
+        let mut out = Small { room: 3 };
+        let wrote = write_through(&mut out, b"abcdef");
+        assert_eq!(rt; wrote.sent.count, 3);
+        assert!(rt; !wrote.sent.whole);
+        assert_eq!(rt; wrote.error, 28);
+    }
+}
