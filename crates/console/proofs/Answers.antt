@@ -1,7 +1,7 @@
 -- Laws of the system's answers: an error's number, and what a reading leaves. Assumes nothing.
 use mathlib.Core.Path.{◌≡◌, refl, sym, ap, ◌∙◌}
 use mathlib.Core.Bool.{Bool, true, false}
-use Prim.Native.Nat.{ℕ, ◌+◌, ◌<◌, ◌≤◌, min}
+use Prim.Native.Nat.{ℕ, ◌<◌, ◌≤◌, min}
 use native.Mathlib.Omega.{arith}
 use borrow.Author.Tests.{ltb-true, eq-eqb, ne_eqb, le-leb, lt-leb}
 use lib.Dec.{T, eqb}
@@ -74,11 +74,12 @@ some_sent n size h =
     let m : min n size ≡ n = omega arith in
     ap (λ (k : ℕ). record { count = k; whole = false }) (sym m) ∙ ap (λ (b : Bool). record { count = min n size; whole = b }) (sym (lt-leb size n h))
 
-pub as_counted : (n size : ℕ) (x : Sent) → x ≡ sent_of n size → n ≤ size → x ≡ sent_of x.count size
+pub count_is : (n size : ℕ) (x : Sent) → x ≡ sent_of n size → n ≤ size → x.count ≡ n
 unfolding sent_of
-as_counted n size x e h =
-    let c : x.count ≡ n = ap (λ (y : Sent). y.count) e ∙ (let m : min n size ≡ n = omega arith in m) in
-    e ∙ ap (λ (k : ℕ). sent_of k size) (sym c)
+count_is n size x e h = ap (λ (y : Sent). y.count) e ∙ (let m : min n size ≡ n = omega arith in m)
+
+pub as_counted : (n size : ℕ) (x : Sent) → x ≡ sent_of n size → n ≤ size → x ≡ sent_of x.count size
+as_counted n size x e h = e ∙ ap (λ (k : ℕ). sent_of k size) (sym (count_is n size x e h))
 
 -- ---- a reading
 

@@ -1,2 +1,3 @@
 pub mod Answers
 pub mod Failures
+pub mod Calls

@@ -239,6 +239,7 @@ module _ {S : Type 0} (step : Stepping S) (May : S → ℕ → Type 0) (work : S
         let g = moves.reads s held said 0 a i e in
         let T = step s held said in
         ih T.state (drop T.used held) told.Ended ended (bytes_drop T.used held a) b w (unbroken refl) g.2 (omega (arith, g.1, more_waits said g.0))
+    ends_by s held said failed Reads e a b w f i m = elim w [ ]
     ends_by s held said input Ends e a b w f i m = refl
     ends_by s held said input Fails e a b w f i m = absurd (f (moves.fails s held said (length (bytes_of input)) a i e))
 

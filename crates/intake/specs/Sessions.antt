@@ -1,6 +1,6 @@
 -- A session: turns over the bytes that are held, and readings where a turn asks for them.
 -- S is what a program keeps from turn to turn; step its turn, by that state, the held bytes and what the last reading said.
-use Rattle.std.specs.Prelude.{ℕ, zero, suc, ◌+◌, ◌≡◌, List, [], ◌++◌, drop}
+use Rattle.std.specs.Prelude.{ℕ, zero, suc, ◌≡◌, List, [], ◌++◌, drop}
 use Rattle.intake.specs.declared.Told.{Told}
 use Rattle.intake.specs.declared.Told.TheVariants as told
 use Rattle.intake.specs.declared.Next.{Next}

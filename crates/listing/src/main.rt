@@ -10,8 +10,8 @@ ghost use Rattle.listing_turn.specs.Promises.{MayList};
 
 use console::{Edge, Failure};
 use intake::{Held, Next};
-use libc::STDOUT_FILENO;
 use listing_turn::{Standing, Turned};
+use std::io::{Read, Write};
 
 // Makes the turn of this number, where the program may.
 fn list_on(input: &mut [u8], output: &mut [u8], standing: Standing, turn: u64) -> Turned
@@ -33,21 +33,29 @@ fn with_held(standing: Standing, held: Held) -> Standing
     }
 }
 
-// Says which of the two failed, after how many records and bytes.
-fn say_failed(edge: Edge, records: u64, bytes: u64) {
-    console::tell_failure(Failure {
+// Says which of the two failed, after how many records and bytes, and why.
+fn say_failed<E: Write>(stderr: &mut E, edge: Edge, records: u64, bytes: u64, error: i32) {
+    let failure = Failure {
         edge,
         records,
         bytes,
-    });
+    };
+    console::tell_failure(stderr, failure, error);
 }
 
 // Turn after turn. A proved loop has to end, and nothing says that an input does: the turns are counted, up to a number
 // that no run reaches. Of a writing that fails, the records are those whose lines were written whole before, and the
 // bytes those written.
-fn list_all(input: &mut [u8], output: &mut [u8]) {
+fn list_all<R: Read, W: Write, E: Write>(
+    stdin: &mut R,
+    stdout: &mut W,
+    stderr: &mut E,
+    input: &mut [u8],
+    output: &mut [u8],
+) {
     let mut standing = listing_turn::begin();
     let mut sent: u64 = 0;
+    let mut error: i32 = 0;
     let mut turn: u64 = 0;
     while turn < u64::MAX {
         let records = standing.count;
@@ -55,10 +63,10 @@ fn list_all(input: &mut [u8], output: &mut [u8]) {
         turn += 1;
         standing = turned.standing;
         let written = turned.written;
-        let out = console::write_out(STDOUT_FILENO, &output[..written]);
-        sent = std::num::wrapping_add_u64(sent, out.count as u64);
-        if !out.whole {
-            say_failed(Edge::Writing, records, sent);
+        let out = console::write_through(stdout, &output[..written]);
+        sent = sent.wrapping_add(out.sent.count as u64);
+        if !out.sent.whole {
+            say_failed(stderr, Edge::Writing, records, sent, out.error);
             return;
         }
         let next = turned.next;
@@ -67,24 +75,31 @@ fn list_all(input: &mut [u8], output: &mut [u8]) {
                 continue;
             }
             Next::Reads => {
-                let came = console::read_behind(input, standing.held);
+                let came = console::read_behind(stdin, input, standing.held);
                 standing = with_held(standing, came.held);
+                error = came.error;
                 continue;
             }
             Next::Ends => {
                 return;
             }
             Next::Fails => {
-                say_failed(Edge::Reading, standing.count, standing.bytes);
+                say_failed(stderr, Edge::Reading, standing.count, standing.bytes, error);
                 return;
             }
         }
     }
-    say_failed(Edge::Reading, standing.count, standing.bytes);
+    say_failed(stderr, Edge::Reading, standing.count, standing.bytes, error);
 }
 
-fn main() {
-    let mut input = io::large_buffer();
-    let mut output = io::large_buffer();
-    list_all(&mut input, &mut output);
+fn main(rt: HostRuntime) {
+    let mut input = console::large_buffer();
+    let mut output = console::large_buffer();
+    list_all(
+        &mut rt.stdin(),
+        &mut rt.stdout(),
+        &mut rt.stderr(),
+        &mut input,
+        &mut output,
+    );
 }

@@ -16,11 +16,12 @@ ghost use Rattle.replay.specs.Replaying.{Replayed};
 
 use console::{Edge, Failure};
 use intake::{Held, Next};
-use libc::{STDERR_FILENO, STDOUT_FILENO};
 use line::Ran;
 use quantity::{Rate, Ticks};
 use replay_account::{Account, Part};
 use replay_turn::{Standing, Turned};
+use std::env::{Env, FillError};
+use std::io::{Read, Write};
 use text::Numeral;
 
 // The places of each list: as many as a run takes.
@@ -64,26 +65,49 @@ fn list_of_u64() -> [u64; PLACES]
 
 // ---- what goes to standard error
 
-fn say(line: &[u8]) {
-    console::write_out(STDERR_FILENO, line);
+fn say<E: Write>(stderr: &mut E, line: &[u8]) {
+    console::write_out(stderr, line);
 }
 
-// Says which of the two failed, after how many records and bytes.
-fn say_failed(edge: Edge, records: u64, bytes: u64) {
-    console::tell_failure(Failure {
+// Says which of the two failed, after how many records and bytes, and why.
+fn say_failed<E: Write>(stderr: &mut E, edge: Edge, records: u64, bytes: u64, error: i32) {
+    let failure = Failure {
         edge,
         records,
         bytes,
-    });
+    };
+    console::tell_failure(stderr, failure, error);
 }
 
 // ---- the arguments
 
+// Whether there is an argument of this number.
+fn has_argument(rt: &impl Env, i: usize) -> bool {
+    let mut byte = [0u8; 1];
+    match rt.arg(i, &mut byte) {
+        Ok(_) => true,
+        Err(FillError::TooLong) => true,
+        Err(FillError::NotPresent) => false,
+    }
+}
+
+// How many arguments there are, the program's name among them, and 4 where there are more.
+fn argument_count(rt: &impl Env) -> usize {
+    for i in 0..4 {
+        if !has_argument(rt, i) {
+            return i;
+        }
+    }
+    4
+}
+
 // The number that an argument is.
-fn argument(i: usize) -> Numeral {
+fn argument(rt: &impl Env, i: usize) -> Numeral {
     let mut buf = argument_bytes();
-    let length = os::arg(i, &mut buf);
-    text::number_in(&buf[..length])
+    match rt.arg(i, &mut buf) {
+        Ok(length) => text::number_in(&buf[..length]),
+        Err(_) => text::number_in(b""),
+    }
 }
 
 // ---- the table file
@@ -135,9 +159,11 @@ fn unended(standing: Standing) -> Standing
     }
 }
 
-// Reads the whole of standard input, turn after turn. A proved loop has to end, and nothing says that an input does: the
+// Reads the whole of the input, turn after turn. A proved loop has to end, and nothing says that an input does: the
 // turns are counted, up to a number that no run reaches.
-fn read_table(
+fn read_table<R: Read, E: Write>(
+    stdin: &mut R,
+    stderr: &mut E,
     input: &mut [u8],
     notes: &mut [u8],
     arrivals: &mut [u64],
@@ -149,33 +175,47 @@ fn read_table(
         × Places 65536 arrivals.new ids.new octets.new }
 {
     let mut standing = replay_turn::begin();
+    let mut error: i32 = 0;
     let mut turn: u64 = 0;
     while turn < u64::MAX {
         let turned = gather_on(input, notes, arrivals, ids, octets, standing, turn);
         turn += 1;
         standing = turned.standing;
         let written = turned.written;
-        console::write_out(STDERR_FILENO, &notes[..written]);
+        console::write_out(stderr, &notes[..written]);
         let next = turned.next;
         match next {
             Next::GoesOn => {
                 continue;
             }
             Next::Reads => {
-                let came = console::read_behind(input, standing.held);
+                let came = console::read_behind(stdin, input, standing.held);
                 standing = with_held(standing, came.held);
+                error = came.error;
                 continue;
             }
             Next::Ends => {
                 return standing;
             }
             Next::Fails => {
-                say_failed(Edge::Reading, standing.records, standing.bytes);
+                say_failed(
+                    stderr,
+                    Edge::Reading,
+                    standing.records,
+                    standing.bytes,
+                    error,
+                );
                 return unended(standing);
             }
         }
     }
-    say_failed(Edge::Reading, standing.records, standing.bytes);
+    say_failed(
+        stderr,
+        Edge::Reading,
+        standing.records,
+        standing.bytes,
+        error,
+    );
     unended(standing)
 }
 
@@ -200,7 +240,9 @@ fn tell_on(
 
 // Writes an account, part after part. Of a writing that fails, the records are those that were read, and the bytes those
 // written.
-fn print_account(
+fn print_account<W: Write, E: Write>(
+    stdout: &mut W,
+    stderr: &mut E,
     out: &mut [u8],
     account: Account,
     answers: &[u8],
@@ -218,10 +260,10 @@ fn print_account(
         turn += 1;
         from = part.line;
         let written = part.written;
-        let wrote = console::write_out(STDOUT_FILENO, &out[..written]);
-        sent = std::num::wrapping_add_u64(sent, wrote.count as u64);
-        if !wrote.whole {
-            say_failed(Edge::Writing, records, sent);
+        let wrote = console::write_through(stdout, &out[..written]);
+        sent = sent.wrapping_add(wrote.sent.count as u64);
+        if !wrote.sent.whole {
+            say_failed(stderr, Edge::Writing, records, sent, wrote.error);
             return;
         }
         let next = part.next;
@@ -234,11 +276,11 @@ fn print_account(
             }
             // An account asks for no input, and a buffer of this size has room for a line.
             Next::Reads => {
-                say_failed(Edge::Writing, records, sent);
+                say_failed(stderr, Edge::Writing, records, sent, wrote.error);
                 return;
             }
             Next::Fails => {
-                say_failed(Edge::Writing, records, sent);
+                say_failed(stderr, Edge::Writing, records, sent, wrote.error);
                 return;
             }
         }
@@ -246,18 +288,30 @@ fn print_account(
 }
 
 // The lines of a run of what a whole file gave.
-fn print_run(ran: Ran, answers: &[u8], picked: &[u32], moments: &[u64], records: u64)
+fn print_run<W: Write, E: Write>(
+    stdout: &mut W,
+    stderr: &mut E,
+    ran: Ran,
+    answers: &[u8],
+    picked: &[u32],
+    moments: &[u64],
+    records: u64,
+)
     requires { Replayed ran answers.now picked.now moments.now }
 {
-    let mut out = io::large_buffer();
+    let mut out = console::large_buffer();
     let account = replay_account::account_of(ran);
-    print_account(&mut out, account, answers, picked, moments, records);
+    print_account(
+        stdout, stderr, &mut out, account, answers, picked, moments, records,
+    );
 }
 
 // ---- the run
 
 // Runs what a table file has given, the whole of which was read, and prints the lines.
-fn run_table(
+fn run_table<W: Write, E: Write>(
+    stdout: &mut W,
+    stderr: &mut E,
     standing: Standing,
     arrivals: &[u64],
     ids: &[u8],
@@ -287,40 +341,88 @@ fn run_table(
         &mut picked,
         &mut moments,
     );
-    print_run(ran, &answers, &picked, &moments, standing.records);
+    print_run(
+        stdout,
+        stderr,
+        ran,
+        &answers,
+        &picked,
+        &moments,
+        standing.records,
+    );
 }
 
 // Reads the table file and, where the whole of it could be read, runs it.
-fn replay(rate: Rate, free: Ticks) {
+fn replay<R: Read, W: Write, E: Write>(
+    stdin: &mut R,
+    stdout: &mut W,
+    stderr: &mut E,
+    rate: Rate,
+    free: Ticks,
+) {
     let mut arrivals = list_of_u64();
     let mut ids = list_of_u8();
     let mut octets = list_of_u16();
-    let mut input = io::large_buffer();
-    let mut notes = io::buffer();
-    let standing = read_table(&mut input, &mut notes, &mut arrivals, &mut ids, &mut octets);
+    let mut input = console::large_buffer();
+    let mut notes = console::buffer();
+    let standing = read_table(
+        stdin,
+        stderr,
+        &mut input,
+        &mut notes,
+        &mut arrivals,
+        &mut ids,
+        &mut octets,
+    );
     if standing.whole {
-        run_table(standing, &arrivals, &ids, &octets, rate, free);
+        run_table(
+            stdout, stderr, standing, &arrivals, &ids, &octets, rate, free,
+        );
     }
 }
 
 // Replays with the numbers that the arguments are.
-fn replay_with(rate: Numeral, free: Numeral) {
+fn replay_with<R: Read, W: Write, E: Write>(
+    stdin: &mut R,
+    stdout: &mut W,
+    stderr: &mut E,
+    rate: Numeral,
+    free: Numeral,
+) {
     let Numeral::Is(rate) = rate else {
-        say(b"replay: the line rate is no number\n");
+        say(stderr, b"replay: the line rate is no number\n");
         return;
     };
     let Numeral::Is(free) = free else {
-        say(b"replay: line-free is no number\n");
+        say(stderr, b"replay: line-free is no number\n");
         return;
     };
-    replay(Rate(rate), Ticks(free));
+    replay(stdin, stdout, stderr, Rate(rate), Ticks(free));
 }
 
 // The line is free from 0 on where no moment is given.
-fn main() {
-    match os::arg_count() {
-        2 => replay_with(argument(1), Numeral::Is(0)),
-        3 => replay_with(argument(1), argument(2)),
-        _ => say(b"usage: replay LINE-RATE [LINE-FREE] < TABLE\n"),
+fn main(rt: HostRuntime) {
+    let mut stdin = rt.stdin();
+    let mut stdout = rt.stdout();
+    let mut stderr = rt.stderr();
+    match argument_count(&rt) {
+        2 => replay_with(
+            &mut stdin,
+            &mut stdout,
+            &mut stderr,
+            argument(&rt, 1),
+            Numeral::Is(0),
+        ),
+        3 => replay_with(
+            &mut stdin,
+            &mut stdout,
+            &mut stderr,
+            argument(&rt, 1),
+            argument(&rt, 2),
+        ),
+        _ => say(
+            &mut stderr,
+            b"usage: replay LINE-RATE [LINE-FREE] < TABLE\n",
+        ),
     }
 }

@@ -1,6 +1,5 @@
 -- `intake::after_reading` meets its contract: more came, the reading failed, or none came. Assumes nothing.
-use borrow.Author.Rules.{rules}
-use Rattle.intake.proofs.Coming.{counts, comes_more, fails, ends}
+use Rattle.intake.proofs.Coming.{comes_more, fails, ends}
 use Rattle.intake.proofs.after_reading.Goals as goal
 
 pub returns-then-got-gt0 : goal.returns-then-got-gt0

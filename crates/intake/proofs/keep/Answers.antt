@@ -1,10 +1,8 @@
 -- `intake::keep` meets its contract. The loop's invariant: i bytes were moved, and those from there on stand as they stood. Assumes nothing.
 use mathlib.Core.Path.{◌≡◌}
-use mathlib.Core.List.{List}
-use Prim.Native.Nat.{ℕ, ◌-◌, ◌≤◌}
+use Prim.Native.Nat.{◌-◌}
 use native.Mathlib.Omega.{arith}
-use Rattle.intake.proofs.Keeping.{Moved, none_moved, one_moved, kept_is}
-use Rattle.intake.proofs.keep.Invariants.{Moving}
+use Rattle.intake.proofs.Keeping.{one_moved, kept_is}
 use Rattle.intake.proofs.keep.Goals as goal
 
 pub loop-i-preserved : goal.loop-i-preserved

@@ -1,9 +1,7 @@
 -- `intake::keep` meets its contract. The loop's invariant: i bytes were moved, and those from there on stand as they stood. Assumes nothing.
-use mathlib.Core.Path.{◌≡◌}
 use mathlib.Core.List.{List}
 use Prim.Native.Nat.{ℕ, ◌-◌, ◌≤◌}
-use native.Mathlib.Omega.{arith}
-use Rattle.intake.proofs.Keeping.{Moved, none_moved, one_moved, kept_is}
+use Rattle.intake.proofs.Keeping.{Moved}
 use Rattle.intake.proofs.keep.Given as goal
 
 pub record Moving (l : List ℕ) (place n i : ℕ) (m : List ℕ) : Type 0 where

@@ -1,10 +1,9 @@
 -- `intake::keep_for` meets its contract: what is held is not in the buffer, or it goes by what comes next. Assumes nothing.
 use mathlib.Core.Path.{sym, ap, ◌∙◌}
 use lib.ListN.{length}
-use borrow.Author.Rules.{rules}
 use Rattle.quantity.proofs.Booleans.{refuted, confirmed}
 use Rattle.intake.specs.declared.Next.{Next}
-use Rattle.intake.specs.Holding.{Within, kept_for, as_it_was}
+use Rattle.intake.specs.Holding.{kept_for, as_it_was}
 use Rattle.intake.proofs.Promises.{is_within_law, unmoved, brought}
 use Rattle.intake.proofs.keep_for.Goals as goal
 

@@ -1,5 +1,4 @@
 -- `reader::is_marked` meets its contract: the first byte decides, and then the second. Assumes nothing.
-use borrow.Author.Rules.{rules}
 use borrow.Author.Tests.{eq-eqb, ne_eqb}
 use Rattle.reader.specs.Reader.{is_mark}
 use Rattle.reader.proofs.is_marked.Goals as goal

@@ -1,6 +1,5 @@
 -- `reader::number32` meets its contract: a number of four bytes is that of two and two, and each of these of one and one.
 -- Assumes nothing.
-use borrow.Author.Rules.{rules}
 use native.Mathlib.Omega.{arith}
 use Prim.Native.Nat.{◌+◌}
 use native.Mathlib.Nat.{add_assoc}

@@ -1,6 +1,5 @@
 -- `reader::number64` meets its contract: a number falls into two halves.
 -- Assumes nothing.
-use borrow.Author.Rules.{rules}
 use native.Mathlib.Omega.{arith}
 use Rattle.tablefile.proofs.Numbers.{number_parts}
 use Rattle.reader.proofs.number64.Goals as goal

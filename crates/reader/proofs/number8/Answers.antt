@@ -1,6 +1,5 @@
 -- `reader::number8` meets its contract: a number of one byte is that byte.
 -- Assumes nothing.
-use borrow.Author.Rules.{rules}
 use native.Mathlib.Omega.{arith}
 use mathlib.Core.Path.{sym}
 use Rattle.tablefile.proofs.Numbers.{number_one}

@@ -1,9 +1,14 @@
 -- `reader::read` meets its contract: the reader takes the bytes left, the mark and the fields in the document's order.
 -- Assumes nothing.
-use borrow.Author.Rules.{rules}
 use native.Mathlib.Omega.{arith}
 use mathlib.Core.Path.{sym, ◌∙◌}
 use Rattle.tablefile.specs.Layout.{GR, GD, ST, FR}
+use mathlib.Core.Path.{◌≡◌}
+use mathlib.Core.Bool.{false}
+use Prim.Native.Nat.{◌+◌}
+use lib.ListN.{get_or}
+use Rattle.reader.specs.Reader.{is_mark}
+use Rattle.tablefile.specs.Layout.{mark}
 use Rattle.reader.proofs.Marks.{none_left, one_left, marked, unknown}
 use Rattle.reader.proofs.read.Goals as goal
 
@@ -41,7 +46,7 @@ pub returns : goal.returns
 returns c =
     let a = c.args in
     unknown a.bytes.now a.place (omega arith)
-    (λ k. elim k [
+    (λ k. elim k as (λ k. is_mark (mark k) (get_or a.bytes.now a.place 0) (get_or a.bytes.now (a.place + 1) 0) ≡ false) [
       | GR ↦ sym c.is_marked-2.ensures ∙ c.if-is_marked-2.false
       | GD ↦ sym c.is_marked-3.ensures ∙ c.if-is_marked-3.false
       | ST ↦ sym c.is_marked-4.ensures ∙ c.if-is_marked-4.false

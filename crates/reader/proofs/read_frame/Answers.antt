@@ -1,6 +1,5 @@
 -- `reader::read_frame` meets its contract: the length decides, and the fields stand where the layout has them.
 -- Assumes nothing.
-use borrow.Author.Rules.{rules}
 use native.Mathlib.Omega.{arith}
 use Rattle.tablefile.specs.Layout.{FR, total, size}
 use Rattle.reader.proofs.FieldsRead.{cut_short, found}

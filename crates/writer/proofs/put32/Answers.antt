@@ -1,10 +1,7 @@
 -- `writer::put32` meets its contract: the byte of each place is stored there.
 -- Assumes nothing.
-use borrow.Author.Rules.{rules}
-use native.Mathlib.Omega.{arith}
 use native.Mathlib.Nat.{div-one}
 use native.Mathlib.Numerals.{towards_suc}
-use lib.ListN.{length-set}
 use Rattle.tablefile.specs.BigEndian.{big_endian}
 use Rattle.writer.proofs.put32.Goals as goal
 

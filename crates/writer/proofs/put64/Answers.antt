@@ -1,6 +1,5 @@
 -- `writer::put64` meets its contract: a number is stored by its two halves.
 -- Assumes nothing.
-use borrow.Author.Rules.{rules}
 use native.Mathlib.Omega.{arith}
 use Rattle.writer.proofs.FieldsStored.{sets_parts}
 use Rattle.writer.proofs.put64.Goals as goal

@@ -1,6 +1,5 @@
 -- `writer::put8` meets its contract: a number of one byte is stored as that byte.
 -- Assumes nothing.
-use borrow.Author.Rules.{rules}
 use native.Mathlib.Omega.{arith}
 use Rattle.writer.proofs.FieldsStored.{sets_byte}
 use Rattle.writer.proofs.put8.Goals as goal

@@ -1,6 +1,5 @@
 -- `writer::put_record` meets its contract: the mark and the fields are stored where the layout has them.
 -- Assumes nothing.
-use borrow.Author.Rules.{rules}
 use native.Mathlib.Omega.{arith}
 use mathlib.Core.Path.{ap}
 use Rattle.tablefile.specs.declared.Record.{Record}

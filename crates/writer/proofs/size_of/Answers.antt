@@ -1,6 +1,5 @@
 -- `writer::size_of` meets its contract: in each arm the record is the arm's.
 -- Assumes nothing.
-use borrow.Author.Rules.{rules}
 use mathlib.Core.Path.{sym, ap}
 use Rattle.tablefile.specs.declared.Record.{Record}
 use Rattle.tablefile.specs.Layout.{kind_of, total, size}

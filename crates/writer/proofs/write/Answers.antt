@@ -1,6 +1,5 @@
 -- `writer::write` meets its contract: the length decides, and then the record is stored at the front.
 -- Assumes nothing.
-use borrow.Author.Rules.{rules}
 use native.Mathlib.Omega.{arith}
 use Rattle.writer.proofs.FieldsStored.{no_room, room}
 use Rattle.writer.proofs.write.Goals as goal

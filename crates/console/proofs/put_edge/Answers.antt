@@ -1,0 +1,24 @@
+-- `console::put_edge` meets its contract. Assumes nothing.
+use mathlib.Core.Path.{sym, ap, ◌∙◌}
+use mathlib.Core.List.{[], ◌∷◌}
+use Rattle.text.specs.Decimal.{decimal}
+use Rattle.text.specs.Puts.{puts}
+use Rattle.console.specs.declared.Edge.{Edge}
+use Rattle.console.specs.Failures.{edge_word}
+use Rattle.console.proofs.put_edge.Goals as goal
+
+pub returns-in-Reading : goal.returns-in-Reading
+unfolding edge_word
+returns-in-Reading c =
+    let p = c in
+    let e = p in
+    let a = e.args in
+    p.put_field.ensures ∙ sym (ap (λ (x : Edge). puts a.out.now 0 (edge_word x ∷ decimal a.failure.records ∷ [])) e.in-Reading.is)
+
+pub returns-in-Writing : goal.returns-in-Writing
+unfolding edge_word
+returns-in-Writing c =
+    let p = c in
+    let e = p in
+    let a = e.args in
+    p.put_field-in-Writing.ensures ∙ sym (ap (λ (x : Edge). puts a.out.now 0 (edge_word x ∷ decimal a.failure.records ∷ [])) e.in-Writing.is)

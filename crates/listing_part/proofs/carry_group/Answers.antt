@@ -1,0 +1,13 @@
+-- `listing_part::carry_group` meets its contract. Assumes nothing.
+use mathlib.Core.Path.{ap, ◌∙◌}
+use Rattle.listing_text.specs.declared.Answered.{Answered}
+use Rattle.listing_part.specs.Steps.{group_carried}
+use Rattle.listing_part.proofs.carry_group.Goals as goal
+
+pub returns : goal.returns
+unfolding group_carried
+returns c =
+    let x = c in
+    let a = x.args in
+    ap (λ (t : Answered). record { answer = t; stream = a.stream; group = x.place_group-placed.result.group }) c.set_up_answer-answer.ensures
+    ∙ ap (group_carried a.stream) x.place_group-placed.ensures

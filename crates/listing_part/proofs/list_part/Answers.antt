@@ -1,0 +1,90 @@
+-- `listing_part::list_part` meets its contract: each turn of the loop is a record of the definition. Assumes nothing.
+use mathlib.Core.Path.{sym, ◌∙◌}
+use Prim.Native.Nat.{◌-◌, ◌≤◌, ◌<◌}
+use native.Mathlib.Omega.{arith}
+use lib.ListN.{length}
+use Rattle.quantity.specs.declared.Item.TheVariants.{GroupId, StreamId}
+use Rattle.quantity.proofs.Ranges.{place_found}
+use Rattle.listing_part.proofs.Stepping.{Going, going}
+use Rattle.listing_part.proofs.Calls.{call_after, call_replies}
+use Rattle.listing_part.proofs.Underway.{starts, stops, goes_further, turns}
+use Rattle.listing_part.proofs.list_part.Goals as goal
+
+pub loop-why-init : goal.loop-why-init
+loop-why-init c = starts _ _ _ _
+
+pub returns-in-Ends : goal.returns-in-Ends
+returns-in-Ends c =
+    let s = c in
+    let n = s in
+    let l = n.loop-why in
+    stops _ _ _ _ _ _ _ _ _ l.invariant _ _ n.read-reading.ensures (sym s.in-Ends.is ∙ n.next_step-step.ensures)
+
+pub offset_bounds-streams-at : goal.offset_bounds-streams-at
+offset_bounds-streams-at c =
+    let stream_in : c.place_of-at.result < 64 = omega (arith, place_found StreamId _ _ c.place_of-at.ensures) in
+    omega (arith, stream_in)
+
+pub bounds-streams-at : goal.bounds-streams-at
+bounds-streams-at c =
+    let stream_in : c.place_of-at.result < 64 = omega (arith, place_found StreamId _ _ c.place_of-at.ensures) in
+    stream_in
+
+pub offset_bounds-groups-of : goal.offset_bounds-groups-of
+offset_bounds-groups-of c =
+    let group_in : c.place_of-of.result < 16 = omega (arith, place_found GroupId _ _ c.place_of-of.ensures) in
+    omega (arith, group_in)
+
+pub bounds-groups-of : goal.bounds-groups-of
+bounds-groups-of c =
+    let group_in : c.place_of-of.result < 16 = omega (arith, place_found GroupId _ _ c.place_of-of.ensures) in
+    group_in
+
+pub offset_bounds-groups-of-in-Goes : goal.offset_bounds-groups-of-in-Goes
+offset_bounds-groups-of-in-Goes c =
+    let group_in : c.place_of-of.result < 16 = omega (arith, place_found GroupId _ _ c.place_of-of.ensures) in
+    omega (arith, group_in)
+
+pub bounds-groups-of-in-Goes : goal.bounds-groups-of-in-Goes
+bounds-groups-of-in-Goes c =
+    let group_in : c.place_of-of.result < 16 = omega (arith, place_found GroupId _ _ c.place_of-of.ensures) in
+    group_in
+
+pub offset_bounds-streams-at-in-Goes : goal.offset_bounds-streams-at-in-Goes
+offset_bounds-streams-at-in-Goes c =
+    let stream_in : c.place_of-at.result < 64 = omega (arith, place_found StreamId _ _ c.place_of-at.ensures) in
+    omega (arith, stream_in)
+
+pub bounds-streams-at-in-Goes : goal.bounds-streams-at-in-Goes
+bounds-streams-at-in-Goes c =
+    let stream_in : c.place_of-at.result < 64 = omega (arith, place_found StreamId _ _ c.place_of-at.ensures) in
+    stream_in
+
+pub overflow_add-number : goal.overflow_add-number
+overflow_add-number c =
+    let goes : let l = c.loop-why in Going c.read-reading.result l.number (length l.out - l.written) c.in-Goes.record c.in-Goes.next = going _ _ _ _ _ (sym c.in-Goes.is ∙ c.next_step-step.ensures) in
+    omega (arith, goes.counts)
+
+pub loop-why-smaller : goal.loop-why-smaller
+loop-why-smaller c =
+    let goes : let l = c.loop-why in Going c.read-reading.result l.number (length l.out - l.written) c.in-Goes.record c.in-Goes.next = going _ _ _ _ _ (sym c.in-Goes.is ∙ c.next_step-step.ensures) in
+    let further : let l = c.loop-why in (l.place < c.in-Goes.next) × (c.in-Goes.next ≤ length c.args.bytes.now) = let n = c in goes_further _ _ _ _ _ _ _ _ _ n.loop-why.invariant _ n.read-reading.ensures _ _ goes in
+    omega (arith, further.0, further.1)
+
+pub loop-why-preserved : goal.loop-why-preserved
+loop-why-preserved c =
+    let goes : let l = c.loop-why in Going c.read-reading.result l.number (length l.out - l.written) c.in-Goes.record c.in-Goes.next = going _ _ _ _ _ (sym c.in-Goes.is ∙ c.next_step-step.ensures) in
+    let p = c in
+    let e = p in
+    let x = e in
+    let q = x in
+    let g = q in
+    let i = g in
+    let f = i in
+    let s = f in
+    let n = s in
+    turns _ _ _ _ _ _ _ _ _ n.loop-why.invariant _ n.read-reading.ensures _ _ goes
+    _ (call_after _ _ _ _ _ _ i.place_of-at.ensures f.stream_of.ensures q.place_of-of.ensures g.group_of.ensures _ x.carry_out-carried.ensures)
+    _ e.letters.ensures
+    _ (call_replies _ _ _ _ _ _ i.place_of-at.ensures f.stream_of.ensures q.place_of-of.ensures g.group_of.ensures _ x.carry_out-carried.ensures)
+    p.put_line-written.ensures

@@ -1,0 +1,22 @@
+-- `listing_part::stream_of` meets its contract. Assumes nothing.
+use mathlib.Core.Path.{sym, ap}
+use Rattle.listing_part.specs.Records.{call_of}
+use Rattle.listing_part.specs.Steps.{stream_of}
+use Rattle.tablefile.specs.declared.Record.{Record}
+use Rattle.listing_part.proofs.stream_of.Goals as goal
+
+pub returns-in-Group : goal.returns-in-Group
+unfolding call_of stream_of
+returns-in-Group c = sym (ap (λ (r : Record). stream_of (call_of r)) c.in-Group.is)
+
+pub returns-in-GroupDefault : goal.returns-in-GroupDefault
+unfolding call_of stream_of
+returns-in-GroupDefault c = sym (ap (λ (r : Record). stream_of (call_of r)) c.in-GroupDefault.is)
+
+pub returns-in-Stream : goal.returns-in-Stream
+unfolding call_of stream_of
+returns-in-Stream c = sym (ap (λ (r : Record). stream_of (call_of r)) c.in-Stream.is)
+
+pub returns-in-Frame : goal.returns-in-Frame
+unfolding call_of stream_of
+returns-in-Frame c = sym (ap (λ (r : Record). stream_of (call_of r)) c.in-Frame.is)
