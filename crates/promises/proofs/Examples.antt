@@ -20,7 +20,7 @@ use Rattle.bridge.specs.Tables.{fresh_bridge, group_at, stream_at, with_group, w
 use Rattle.calls.specs.Calls.{group_taken, group_placed, stream_taken, stream_placed, judged_at}
 use Rattle.bridge.specs.Calls.{group_stored, group_called, stream_stored, stream_called, frame_stored, frame_called}
 use Rattle.calls.specs.Numbers.{set_up_number}
-use Rattle.bridge.specs.History.{group, stream, frame, after_call, after, outcome_of, outcome, outcomes, history, bridge_after, reply}
+use Rattle.bridge.specs.History.{group, frame, after_call, after, outcome_of, outcome, outcomes, history, bridge_after, reply}
 use Rattle.bridge.specs.Spans.{Sent, arriving, bits_in, WithinBurstAndRate, burst_at, rate_at}
 use Rattle.bridge.specs.declared.Bridge.{Bridge}
 use Rattle.promises.specs.Demand3.{Conforms, EligibleOnArrival, EachOf, ConformingArrivals}

@@ -1,5 +1,5 @@
 -- The span limit of a trace: what the frames still to come may spend in a span, times 10⁹, is at most what the stream's full time leaves of it. Assumes nothing.
-use mathlib.Core.Path.{◌≡◌}
+use mathlib.Core.Path.{◌≡◌, sym, subst}
 use mathlib.Core.List.{List, [], ◌∷◌}
 use Prim.Native.Nat.{ℕ, ◌+◌, ◌-◌, ◌*◌, ◌≤◌, max}
 use native.Mathlib.Nat.{mul-le-mul_right}
@@ -33,7 +33,11 @@ span_from c s (discarded f ∷ os) tr j lo hi h = span_from c (next c s (discard
 span_from c s (released f ∷ os) tr j lo hi h = go (ℕ_discrete f.stream j) (span_from c (next c s (released f)) os tr.1 j lo hi h)
   where
     go : Dec (f.stream ≡ j) → bits_in j lo hi (eligible os) * K ≤ left c j ((next c s (released f)).full j) lo hi → bits_in j lo hi (eligible (released f ∷ os)) * K ≤ left c j (s.full j) lo hi
-    go (yes p) ih = rw (← p) (own c s f lo hi _ _ tr.0.0 h (rw (← p, upd_same) at ih) (seen f.stream lo hi (at f) (eligible os)))
+    go (yes p) ih =
+        let now : ℕ → Type 0 = λ i. bits_in i lo hi (eligible (released f ∷ os)) * K ≤ left c i (s.full i) lo hi in
+        let later : ℕ → Type 0 = λ i. bits_in i lo hi (eligible os) * K ≤ left c i ((next c s (released f)).full i) lo hi in
+        let mine : later f.stream = subst later (sym p) ih in
+        subst now p (own c s f lo hi _ _ tr.0.0 h (rw upd_same at mine) (seen f.stream lo hi (at f) (eligible os)))
     go (no p) ih = other _ _ _ p (rw (upd_other _ _ _ _ p) at ih) (seen j lo hi (at f) (eligible os))
 
 -- from a fresh state, in every span, of every stream
