@@ -7,6 +7,7 @@ use Prim.Native.Nat.{ℕ, zero, suc, ◌<◌, min}
 use native.Mathlib.Omega.{arith}
 use lib.IntN.{pos}
 use lib.ListN.{length, get_or, set, length-map}
+use lib.Seq.{get_or-set_same, set-set}
 use Rattle.quantity.specs.Numbers.{number_of}
 use Rattle.shaper.specs.Frame.{after_release, process_frame, eligibility_time, discarded, released}
 use Rattle.records.specs.Numbers.{is_set_up, answer_number}
@@ -136,6 +137,11 @@ module _ (i : ℕ) (s : StreamRecord) (g : GroupRecord) (n A : ℕ) where
       go (inr p) =
           let T = eligibility_time (stream_of s) (group_of g) (charged n) A in
           rw p.1 (settles Keeps (stream_of s) (group_of g) (charged n) A T stays_itself (released_keeps (charged n) T p.0))
+
+-- ---- a record that is written field by field is written once
+module _ (ss : List StreamRecord) (k : ℕ) (d : StreamRecord) (h : k < length ss) where
+  pub written_twice : (x : StreamRecord) (f : StreamRecord → StreamRecord) → set (set ss k x) k (f (get_or (set ss k x) k d)) ≡ set ss k (f x)
+  written_twice x f = ap (λ (y : StreamRecord). set (set ss k x) k (f y)) (get_or-set_same ss k x d h) ∙ set-set ss k x (f x)
 
 -- ---- a frame in the lent run; r is what the by-value call told
 module _ (i : ℕ) (g : GroupRecord) (ss : List StreamRecord) (k n A t : ℕ) where

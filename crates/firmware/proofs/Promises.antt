@@ -11,7 +11,6 @@ use Rattle.quantity.specs.declared.Item.TheVariants.{GroupId, StreamId}
 use Rattle.quantity.specs.declared.Refusal.TheVariants.{IdRange, SetUpBefore}
 use Rattle.records.specs.Numbers.{is_set_up}
 use Rattle.setup.specs.SetUp.{group_set_up, stream_set_up}
-use Rattle.records.specs.declared.Answer.TheVariants.{Refused}
 use Rattle.setup.specs.declared.GroupSetUp.{GroupSetUp}
 use Rattle.setup.specs.declared.GroupSetUp.TheVariants as group
 use Rattle.setup.specs.declared.StreamSetUp.{StreamSetUp}

@@ -1,3 +1,1 @@
 pub mod InPlaceLaws
-pub mod Walking
-pub mod Freeing

@@ -1,13 +1,13 @@
 -- Laws of what a run keeps beside the waiting places: how it follows an entry and one that leaves, and that it gives the smallest time and the entry that is due. Assumes nothing.
 use mathlib.Core.Path.{◌≡◌, refl, sym, ap, ap₂, ◌∙◌}
-use mathlib.Core.Bool.{Bool, true, false, not, cond, ◌&&◌}
+use mathlib.Core.Bool.{Bool, true, false, cond, ◌&&◌}
 use mathlib.Core.List.{List}
 use Prim.Native.Nat.{ℕ, zero, suc, ◌+◌, ◌*◌, ◌≤◌, ◌<◌, min}
 use native.Mathlib.Omega.{arith}
 use lib.Dec.{ltb, leb, eqb}
 use lib.ListN.{length, get_or, set, length-set}
 use lib.Seq.{get_or-set_same, get_or-set_other, set-get_or}
-use borrow.Author.Tests.{leb-true, leb-false, ltb-true, lt-leb, le-leb, lt-ltb, le-ltb, eqb-true, eqb-false, ne_eqb, not-true, not-false}
+use borrow.Author.Tests.{leb-true, leb-false, ltb-true, lt-leb, le-leb, lt-ltb, le-ltb, eqb-true, eqb-false, ne_eqb}
 use Rattle.quantity.specs.Kinds.{ticks}
 use Rattle.quantity.specs.Ranges.{in_range, most_of}
 use Rattle.quantity.specs.declared.Item.TheVariants.{Class, Charge, EntryTime}
@@ -194,18 +194,18 @@ module _ (w : Waiting) (firsts places : List ℕ) (h : Handed) (K : Keeps w firs
   gives : (t : Bool) → b ≡ t → record { placed = t; waiting = W } ≡ put_gives w h.class h.entry
   gives t q = ap (λ (x : Bool). record { placed = x; waiting = W }) (sym q) ∙ e
 
-  pub enqueue_not : not b ≡ true → (record { placed = false; waiting = W } ≡ put_gives w h.class h.entry) × Keeps W firsts places
+  pub enqueue_not : b ≡ false → (record { placed = false; waiting = W } ≡ put_gives w h.class h.entry) × Keeps W firsts places
   enqueue_not n =
-      let g = gives false (not-true b n) in
+      let g = gives false n in
       let z : W ≡ w = ap (λ (x : AfterPut). x.waiting) g ∙ put_not w h.class h.entry (sym (ap (λ (x : AfterPut). x.placed) g)) in
       (g, rw z K)
 
-  module _ (d : not b ≡ false) where
+  module _ (d : b ≡ true) where
     abbrev v : Waiting
     v = with_last w h.class h.entry
 
     did : record { placed = true; waiting = W } ≡ put_gives w h.class h.entry
-    did = gives true (not-false b d)
+    did = gives true d
 
     entered : (get_or w.fills h.class 0 < room_of_class) × (W ≡ v)
     entered = let z = put_did w h.class h.entry (sym (ap (λ (x : AfterPut). x.placed) did)) in (z.0, ap (λ (x : AfterPut). x.waiting) did ∙ z.1)

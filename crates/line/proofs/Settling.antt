@@ -1,12 +1,12 @@
 -- Laws of one arrival: a released frame may enter, entering without the tests is entering, and what becomes of the frame. Assumes nothing.
 use mathlib.Core.Path.{◌≡◌, refl, sym, ap, ◌∙◌}
-use mathlib.Core.Bool.{Bool, true, false, not, cond}
-use mathlib.Core.Logic.{◌⊎◌, ⊎_elim}
+use mathlib.Core.Bool.{Bool, true, false, cond}
+use mathlib.Core.Logic.{⊎_elim}
 use Prim.Native.Nat.{ℕ, ◌+◌, ◌≤◌, ◌<◌}
 use native.Mathlib.Omega.{arith}
 use lib.Dec.{ltb}
 use lib.ListN.{get_or}
-use borrow.Author.Tests.{ltb-false, not-true, not-false}
+use borrow.Author.Tests.{ltb-false}
 use Rattle.quantity.specs.Numbers.{number_of}
 use Rattle.quantity.specs.declared.Item.TheVariants.{EntryTime, Arrival, StreamId, GroupId}
 use Rattle.quantity.specs.declared.Refusal.{Refusal}
@@ -55,11 +55,11 @@ module _ (w : Waiting) (g : Group) (k n : ℕ) (a : Answer) (T : Ticks) (e : a �
         told true = refl
         told false = refl
 
-  pub settle_full : not b ≡ true → (r : ℕ) → r ≡ number_of ClassFull → record { number = r; waiting = W } ≡ settled w g k n a
-  settle_full t r i = ap (λ (x : ℕ). record { number = x; waiting = W }) i ∙ untested false (not-true b t)
+  pub settle_full : b ≡ false → (r : ℕ) → r ≡ number_of ClassFull → record { number = r; waiting = W } ≡ settled w g k n a
+  settle_full t r i = ap (λ (x : ℕ). record { number = x; waiting = W }) i ∙ untested false t
 
-  pub settle_in : not b ≡ false → record { number = 0; waiting = W } ≡ settled w g k n a
-  settle_in t = untested true (not-false b t)
+  pub settle_in : b ≡ true → record { number = 0; waiting = W } ≡ settled w g k n a
+  settle_in t = untested true t
 
 module _ (w : Waiting) (g : Group) (k n : ℕ) (a : Answer) where
   pub settle_discarded : (T : Ticks) → a ≡ Discarded T → (r : ℕ) → r ≡ answer_number a → record { number = r; waiting = w } ≡ settled w g k n a
