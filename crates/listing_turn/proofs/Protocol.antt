@@ -1,5 +1,5 @@
 -- Where the program stands: after a turn, and after a reading. Assumes nothing.
-use Rattle.std.proofs.Common.{◌≡◌, ℕ, ◌-◌, List, [], length, sym, ap, ◌∙◌}
+use Rattle.std.proofs.Common.{◌≡◌, ℕ, List, [], length, sym, ap, ◌∙◌}
 use Rattle.intake.specs.Holding.{Within, nothing_held, held_in}
 use Rattle.intake.specs.Sessions.{Turn, at_first}
 use Rattle.intake.proofs.Promises as sessions

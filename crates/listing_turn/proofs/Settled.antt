@@ -1,5 +1,5 @@
 -- Laws of what further bytes do not change: two bytes that are no known mark end a listing, whatever follows them. Assumes nothing.
-use Rattle.std.proofs.Common.{◌≡◌, ℕ, suc, ◌+◌, ◌-◌, ◌≤◌, Bool, List, ◌++◌, length, drop, sym, refl, ap, ◌∙◌, subst, arith}
+use Rattle.std.proofs.Common.{◌≡◌, ℕ, suc, ◌≤◌, Bool, List, ◌++◌, length, drop, sym, refl, ap, ◌∙◌, subst, arith}
 use Rattle.quantity.specs.Numbers.{number_of}
 use Rattle.quantity.specs.declared.Refusal.{Refusal}
 use Rattle.quantity.specs.declared.Refusal.TheVariants.{CutShort}

@@ -4,15 +4,12 @@ use Rattle.intake.proofs.after_reading.Goals as goal
 
 pub returns-then-got-gt0 : goal.returns-then-got-gt0
 returns-then-got-gt0 c =
-    let s = c in
-    comes_more s.args.held _ s.args.waits _ _ s.ranges.got c.if-got-gt0.true c.more_filled-more.ensures
+    comes_more c.args.held _ c.args.waits _ _ c.ranges.got c.if-got-gt0.true c.more_filled-more.ensures
 
 pub returns-then-got-lt0 : goal.returns-then-got-lt0
 returns-then-got-lt0 c =
-    let s = c in
-    fails s.args.held _ s.args.waits _ _ s.ranges.got c.if-got-lt0.true c.told_by_failure-told.ensures
+    fails c.args.held _ c.args.waits _ _ c.ranges.got c.if-got-lt0.true c.told_by_failure-told.ensures
 
 pub returns : goal.returns
 returns c =
-    let s = c in
-    ends s.args.held _ s.args.waits _ _ s.ranges.got c.if-got-gt0.false c.if-got-lt0.false c.told_by_none-told.ensures
+    ends c.args.held _ c.args.waits _ _ c.ranges.got c.if-got-gt0.false c.if-got-lt0.false c.told_by_none-told.ensures

@@ -10,9 +10,8 @@ use Rattle.intake.proofs.keep_for.Goals as goal
 pub returns-then-not-is_within : goal.returns-then-not-is_within
 unfolding as_it_was
 returns-then-not-is_within c =
-    let w = c in
-    let a = w.args in
-    unmoved a.next a.held a.bytes.now (refuted w.is_within.ensures c.if-not-is_within.true)
+    let a = c.args in
+    unmoved a.next a.held a.bytes.now (refuted c.is_within.ensures c.if-not-is_within.true)
 
 pub keep-requires : goal.keep-requires
 keep-requires c = let w = (let a = c.args in is_within_law a.held (length a.bytes.now) (confirmed c.is_within.ensures c.if-not-is_within.false)) in (w.ahead, w.inside)
@@ -25,11 +24,8 @@ returns-in-GoesOn c =
 
 pub returns-in-Reads : goal.returns-in-Reads
 returns-in-Reads c =
-    let k = c in
-    let e = k in
-    let i = e in
-    let a = i.args in
-    k.keep.ensures ∙ sym (brought a.held a.bytes.now (let a = c.args in is_within_law a.held (length a.bytes.now) (confirmed c.is_within.ensures c.if-not-is_within.false))) ∙ sym (ap (λ (x : Next). kept_for x a.held a.bytes.now) e.in-Reads.is)
+    let a = c.args in
+    c.keep.ensures ∙ sym (brought a.held a.bytes.now (let a = c.args in is_within_law a.held (length a.bytes.now) (confirmed c.is_within.ensures c.if-not-is_within.false))) ∙ sym (ap (λ (x : Next). kept_for x a.held a.bytes.now) c.in-Reads.is)
 
 pub returns-in-Ends : goal.returns-in-Ends
 unfolding kept_for as_it_was

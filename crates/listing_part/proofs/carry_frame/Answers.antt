@@ -7,6 +7,5 @@ use Rattle.listing_part.proofs.carry_frame.Goals as goal
 pub returns : goal.returns
 unfolding frame_carried
 returns c =
-    let x = c in
-    ap (λ (t : Answered). record { answer = t; stream = x.judge_at-judged.result.stream; group = x.judge_at-judged.result.group }) c.frame_answer-answer.ensures
-    ∙ ap frame_carried x.judge_at-judged.ensures
+    ap (λ (t : Answered). record { answer = t; stream = c.judge_at-judged.result.stream; group = c.judge_at-judged.result.group }) c.frame_answer-answer.ensures
+    ∙ ap frame_carried c.judge_at-judged.ensures

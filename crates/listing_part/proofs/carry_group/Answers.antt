@@ -7,7 +7,6 @@ use Rattle.listing_part.proofs.carry_group.Goals as goal
 pub returns : goal.returns
 unfolding group_carried
 returns c =
-    let x = c in
-    let a = x.args in
-    ap (λ (t : Answered). record { answer = t; stream = a.stream; group = x.place_group-placed.result.group }) c.set_up_answer-answer.ensures
-    ∙ ap (group_carried a.stream) x.place_group-placed.ensures
+    let a = c.args in
+    ap (λ (t : Answered). record { answer = t; stream = a.stream; group = c.place_group-placed.result.group }) c.set_up_answer-answer.ensures
+    ∙ ap (group_carried a.stream) c.place_group-placed.ensures

@@ -7,7 +7,6 @@ use Rattle.listing_part.proofs.carry_stream.Goals as goal
 pub returns : goal.returns
 unfolding stream_carried
 returns c =
-    let x = c in
-    let a = x.args in
-    ap (λ (t : Answered). record { answer = t; stream = x.place_stream-placed.result.stream; group = a.group }) c.set_up_answer-answer.ensures
-    ∙ ap (stream_carried a.group) x.place_stream-placed.ensures
+    let a = c.args in
+    ap (λ (t : Answered). record { answer = t; stream = c.place_stream-placed.result.stream; group = a.group }) c.set_up_answer-answer.ensures
+    ∙ ap (stream_carried a.group) c.place_stream-placed.ensures

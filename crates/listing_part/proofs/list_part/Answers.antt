@@ -15,10 +15,8 @@ loop-why-init c = starts _ _ _ _
 
 pub returns-in-Ends : goal.returns-in-Ends
 returns-in-Ends c =
-    let s = c in
-    let n = s in
-    let l = n.loop-why in
-    stops _ _ _ _ _ _ _ _ _ l.invariant _ _ n.read-reading.ensures (sym s.in-Ends.is ∙ n.next_step-step.ensures)
+    let l = c.loop-why in
+    stops _ _ _ _ _ _ _ _ _ l.invariant _ _ c.read-reading.ensures (sym c.in-Ends.is ∙ c.next_step-step.ensures)
 
 pub offset_bounds-streams-at : goal.offset_bounds-streams-at
 offset_bounds-streams-at c =
@@ -68,23 +66,14 @@ overflow_add-number c =
 pub loop-why-smaller : goal.loop-why-smaller
 loop-why-smaller c =
     let goes : let l = c.loop-why in Going c.read-reading.result l.number (length l.out - l.written) c.in-Goes.record c.in-Goes.next = going _ _ _ _ _ (sym c.in-Goes.is ∙ c.next_step-step.ensures) in
-    let further : let l = c.loop-why in (l.place < c.in-Goes.next) × (c.in-Goes.next ≤ length c.args.bytes.now) = let n = c in goes_further _ _ _ _ _ _ _ _ _ n.loop-why.invariant _ n.read-reading.ensures _ _ goes in
+    let further : let l = c.loop-why in (l.place < c.in-Goes.next) × (c.in-Goes.next ≤ length c.args.bytes.now) = goes_further _ _ _ _ _ _ _ _ _ c.loop-why.invariant _ c.read-reading.ensures _ _ goes in
     omega (arith, further.0, further.1)
 
 pub loop-why-preserved : goal.loop-why-preserved
 loop-why-preserved c =
     let goes : let l = c.loop-why in Going c.read-reading.result l.number (length l.out - l.written) c.in-Goes.record c.in-Goes.next = going _ _ _ _ _ (sym c.in-Goes.is ∙ c.next_step-step.ensures) in
-    let p = c in
-    let e = p in
-    let x = e in
-    let q = x in
-    let g = q in
-    let i = g in
-    let f = i in
-    let s = f in
-    let n = s in
-    turns _ _ _ _ _ _ _ _ _ n.loop-why.invariant _ n.read-reading.ensures _ _ goes
-    _ (call_after _ _ _ _ _ _ i.place_of-at.ensures f.stream_of.ensures q.place_of-of.ensures g.group_of.ensures _ x.carry_out-carried.ensures)
-    _ e.letters.ensures
-    _ (call_replies _ _ _ _ _ _ i.place_of-at.ensures f.stream_of.ensures q.place_of-of.ensures g.group_of.ensures _ x.carry_out-carried.ensures)
-    p.put_line-written.ensures
+    turns _ _ _ _ _ _ _ _ _ c.loop-why.invariant _ c.read-reading.ensures _ _ goes
+    _ (call_after _ _ _ _ _ _ c.place_of-at.ensures c.stream_of.ensures c.place_of-of.ensures c.group_of.ensures _ c.carry_out-carried.ensures)
+    _ c.letters.ensures
+    _ (call_replies _ _ _ _ _ _ c.place_of-at.ensures c.stream_of.ensures c.place_of-of.ensures c.group_of.ensures _ c.carry_out-carried.ensures)
+    c.put_line-written.ensures

@@ -8,13 +8,13 @@ use Rattle.listing_part.proofs.Stepping.{no_room, no_number, goes}
 use Rattle.listing_part.proofs.next_step.Goals as goal
 
 pub returns-then-room-lt-LINE_ROOM : goal.returns-then-room-lt-LINE_ROOM
-returns-then-room-lt-LINE_ROOM c = let x = c in let a = x.args in no_room a.reading _ _ a.count a.room x.in-Found.is (omega arith)
+returns-then-room-lt-LINE_ROOM c = let a = c.args in no_room a.reading _ _ a.count a.room c.in-Found.is (omega arith)
 
 pub returns-then-count-ge-MOST_LINES : goal.returns-then-count-ge-MOST_LINES
-returns-then-count-ge-MOST_LINES c = let x = c in let a = x.args in no_number a.reading _ _ a.count a.room x.in-Found.is (omega arith)
+returns-then-count-ge-MOST_LINES c = let a = c.args in no_number a.reading _ _ a.count a.room c.in-Found.is (omega arith)
 
 pub returns-else-count-ge-MOST_LINES : goal.returns-else-count-ge-MOST_LINES
-returns-else-count-ge-MOST_LINES c = let x = c in let a = x.args in goes a.reading _ _ a.count a.room x.in-Found.is (omega arith) (omega arith)
+returns-else-count-ge-MOST_LINES c = let a = c.args in goes a.reading _ _ a.count a.room c.in-Found.is (omega arith) (omega arith)
 
 pub returns-in-NothingLeft : goal.returns-in-NothingLeft
 unfolding next_step

@@ -24,9 +24,8 @@ overflow_add-result c =
 pub returns : goal.returns
 unfolding end_line
 returns c =
-    let d = c in
-    let a = d.args in
+    let a = c.args in
     put_then (101 ∷ 110 ∷ 100 ∷ 32 ∷ []) (decimal a.count ++ (newline ∷ [])) (record { ends = refl; stands = simp towards_suc })
     (put_then (decimal a.count) (newline ∷ [])
-    (put_decimal _ d.put_decimal-last.new.out (a.at + 4) d.put_decimal-last.result a.count (simp length-set (omega arith)) d.put_decimal-last.ensures)
+    (put_decimal _ c.put_decimal-last.new.out (a.at + 4) c.put_decimal-last.result a.count (simp length-set (omega arith)) c.put_decimal-last.ensures)
     (record { ends = refl; stands = refl }))

@@ -50,8 +50,7 @@ overflow_add-result c =
 
 pub returns : goal.returns
 returns c =
-    let d = c in
-    let a = d.args in
+    let a = c.args in
     put_then (decimal a.number) _
-    (put_decimal a.out.now d.put_decimal-after.new.out a.at d.put_decimal-after.result a.number (omega arith) d.put_decimal-after.ensures)
+    (put_decimal a.out.now c.put_decimal-after.new.out a.at c.put_decimal-after.result a.number (omega arith) c.put_decimal-after.ensures)
     (record { ends = refl; stands = simp towards_suc })

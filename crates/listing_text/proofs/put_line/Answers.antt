@@ -22,16 +22,13 @@ pub put_tail-requires : goal.put_tail-requires
 put_tail-requires c =
     let roomy : let a = c.args in a.at + line_room ≤ length a.out.now = let a = c.args in leb-true (a.at + line_room) (length a.out.now) (confirmed c.has_room.ensures c.if-not-has_room.false) in
     let head : let a = c.args in (c.put_head-tail.result ≤ a.at + head_room) × (length c.put_head-tail.new.out ≡ length a.out.now) = let a = c.args in head_within a.number space (get_or a.letters 0 0) (get_or a.letters 1 0) space c.put_head-tail.ensures in
-    let h = c in omega (arith, roomy, head.0, head.1)
+    omega (arith, roomy, head.0, head.1)
 
 pub returns : goal.returns
 unfolding line_put line_of
 returns c =
     let roomy : let a = c.args in a.at + line_room ≤ length a.out.now = let a = c.args in leb-true (a.at + line_room) (length a.out.now) (confirmed c.has_room.ensures c.if-not-has_room.false) in
-    let t = c in
-    let h = t in
-    let e = h in
-    let a = e.args in
+    let a = c.args in
     puts a.out.now a.at _ (le-leb (a.at + line_room) (length a.out.now) roomy)
     (put_text (append_assoc (decimal a.number) (space ∷ get_or a.letters 0 0 ∷ get_or a.letters 1 0 ∷ space ∷ []) (decimal a.answer.number ++ (space ∷ (column (values_of a.answer.time) ++ (newline ∷ [])))))
-    (put_then _ _ h.put_head-tail.ensures t.put_tail.ensures))
+    (put_then _ _ c.put_head-tail.ensures c.put_tail.ensures))

@@ -9,6 +9,4 @@ returns-then-number-lt10 c = put_text (one_digit c.args.number (omega arith)) (r
 
 pub returns : goal.returns
 returns c =
-    let d = c in
-    let s = d in
-    put_byte_decimal s.args.out.now d.put_decimal.new.out s.args.at d.put_decimal.result s.args.number (omega (arith, s.ranges.number)) (omega arith) d.put_decimal.ensures
+    put_byte_decimal c.args.out.now c.put_decimal.new.out c.args.at c.put_decimal.result c.args.number (omega (arith, c.ranges.number)) (omega arith) c.put_decimal.ensures

@@ -13,18 +13,13 @@ use Rattle.listing_text.proofs.put_refused.Goals as goal
 pub put_count-requires : goal.put_count-requires
 unfolding values_of
 put_count-requires c =
-    let line : let k = c in let a = k.args in Put a.out.now a.at (line_of (a.count + 1) (dash ∷ dash ∷ []) k.refusal_number.result []) c.put_line-last.result c.put_line-last.new.out = let a = c.args in line_is_put a.out.now a.at (a.count + 1) (dash ∷ dash ∷ []) _ (omega arith) c.put_line-last.ensures in
-    let p = c in
-    let k = p in
-    let a = k.args in
-    omega (arith, line.ends, put_length _ line, line_short (a.count + 1) (dash ∷ dash ∷ []) k.refusal_number.result [] refl (omega (arith, k.refusal_number.type_inv)))
+    let line : let a = c.args in Put a.out.now a.at (line_of (a.count + 1) (dash ∷ dash ∷ []) c.refusal_number.result []) c.put_line-last.result c.put_line-last.new.out = let a = c.args in line_is_put a.out.now a.at (a.count + 1) (dash ∷ dash ∷ []) _ (omega arith) c.put_line-last.ensures in
+    let a = c.args in
+    omega (arith, line.ends, put_length _ line, line_short (a.count + 1) (dash ∷ dash ∷ []) c.refusal_number.result [] refl (omega (arith, c.refusal_number.type_inv)))
 
 pub returns : goal.returns
 unfolding values_of
 returns c =
-    let line : let k = c in let a = k.args in Put a.out.now a.at (line_of (a.count + 1) (dash ∷ dash ∷ []) k.refusal_number.result []) c.put_line-last.result c.put_line-last.new.out = let a = c.args in line_is_put a.out.now a.at (a.count + 1) (dash ∷ dash ∷ []) _ (omega arith) c.put_line-last.ensures in
-    let t = c in
-    let p = t in
-    let k = p in
-    let a = k.args in
-    put_text (refused_ending a.count k.refusal_number.result a.why k.refusal_number.ensures) (put_then _ _ line t.put_count.ensures)
+    let line : let a = c.args in Put a.out.now a.at (line_of (a.count + 1) (dash ∷ dash ∷ []) c.refusal_number.result []) c.put_line-last.result c.put_line-last.new.out = let a = c.args in line_is_put a.out.now a.at (a.count + 1) (dash ∷ dash ∷ []) _ (omega arith) c.put_line-last.ensures in
+    let a = c.args in
+    put_text (refused_ending a.count c.refusal_number.result a.why c.refusal_number.ensures) (put_then _ _ line c.put_count.ensures)

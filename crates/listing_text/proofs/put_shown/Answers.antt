@@ -9,11 +9,9 @@ use Rattle.listing_text.proofs.put_shown.Goals as goal
 pub returns-in-Time : goal.returns-in-Time
 unfolding column values_of
 returns-in-Time c =
-    let d = c in
-    let t = d in
-    let a = t.args in
-    put_text (sym (ap (λ (s : Shown). column (values_of s)) t.in-Time.is))
-    (put_decimal a.out.now d.put_decimal.new.out a.at d.put_decimal.result t.in-Time.ticks.0 (omega arith) d.put_decimal.ensures)
+    let a = c.args in
+    put_text (sym (ap (λ (s : Shown). column (values_of s)) c.in-Time.is))
+    (put_decimal a.out.now c.put_decimal.new.out a.at c.put_decimal.result c.in-Time.ticks.0 (omega arith) c.put_decimal.ensures)
 
 pub returns-in-Dash : goal.returns-in-Dash
 unfolding column values_of

@@ -11,36 +11,34 @@ use Rattle.listing_text.proofs.put_tail.Goals as goal
 
 pub bounds-out-after : goal.bounds-out-after
 bounds-out-after c =
-    let room : c.put_number-after.result + 22 ≤ length c.put_number-after.new.out = let s = c in let p = c.put_number-after.ensures in omega (arith, p.ends, put_length _ p, byte_short s.args.number (omega (arith, s.ranges.number))) in
+    let room : c.put_number-after.result + 22 ≤ length c.put_number-after.new.out = let p = c.put_number-after.ensures in omega (arith, p.ends, put_length _ p, byte_short c.args.number (omega (arith, c.ranges.number))) in
     omega (arith, room)
 
 pub overflow_add-after : goal.overflow_add-after
 overflow_add-after c =
-    let room : c.put_number-after.result + 22 ≤ length c.put_number-after.new.out = let s = c in let p = c.put_number-after.ensures in omega (arith, p.ends, put_length _ p, byte_short s.args.number (omega (arith, s.ranges.number))) in
+    let room : c.put_number-after.result + 22 ≤ length c.put_number-after.new.out = let p = c.put_number-after.ensures in omega (arith, p.ends, put_length _ p, byte_short c.args.number (omega (arith, c.ranges.number))) in
     omega (arith, room)
 
 pub put_shown-last-requires : goal.put_shown-last-requires
 put_shown-last-requires c =
-    let room : c.put_number-after.result + 22 ≤ length c.put_number-after.new.out = let s = c in let p = c.put_number-after.ensures in omega (arith, p.ends, put_length _ p, byte_short s.args.number (omega (arith, s.ranges.number))) in
+    let room : c.put_number-after.result + 22 ≤ length c.put_number-after.new.out = let p = c.put_number-after.ensures in omega (arith, p.ends, put_length _ p, byte_short c.args.number (omega (arith, c.ranges.number))) in
     simp length-set (omega (arith, room))
 
 pub bounds-out-last : goal.bounds-out-last
 bounds-out-last c =
-    let room : c.put_number-after.result + 22 ≤ length c.put_number-after.new.out = let s = c in let p = c.put_number-after.ensures in omega (arith, p.ends, put_length _ p, byte_short s.args.number (omega (arith, s.ranges.number))) in
-    let last_room : (c.put_shown-last.result + 1 ≤ length c.put_shown-last.new.out) × (length c.put_shown-last.new.out ≡ length c.args.out.now) = let d = c in let p = c.put_shown-last.ensures in let long = put_length _ p ∙ length-set d.put_number-after.new.out d.put_number-after.result space in (omega (arith, p.ends, long, room, column_short (values_of d.args.time)), long ∙ put_length _ d.put_number-after.ensures) in
+    let room : c.put_number-after.result + 22 ≤ length c.put_number-after.new.out = let p = c.put_number-after.ensures in omega (arith, p.ends, put_length _ p, byte_short c.args.number (omega (arith, c.ranges.number))) in
+    let last_room : (c.put_shown-last.result + 1 ≤ length c.put_shown-last.new.out) × (length c.put_shown-last.new.out ≡ length c.args.out.now) = let p = c.put_shown-last.ensures in let long = put_length _ p ∙ length-set c.put_number-after.new.out c.put_number-after.result space in (omega (arith, p.ends, long, room, column_short (values_of c.args.time)), long ∙ put_length _ c.put_number-after.ensures) in
     omega (arith, last_room.0)
 
 pub overflow_add-result : goal.overflow_add-result
 overflow_add-result c =
-    let room : c.put_number-after.result + 22 ≤ length c.put_number-after.new.out = let s = c in let p = c.put_number-after.ensures in omega (arith, p.ends, put_length _ p, byte_short s.args.number (omega (arith, s.ranges.number))) in
-    let last_room : (c.put_shown-last.result + 1 ≤ length c.put_shown-last.new.out) × (length c.put_shown-last.new.out ≡ length c.args.out.now) = let d = c in let p = c.put_shown-last.ensures in let long = put_length _ p ∙ length-set d.put_number-after.new.out d.put_number-after.result space in (omega (arith, p.ends, long, room, column_short (values_of d.args.time)), long ∙ put_length _ d.put_number-after.ensures) in
+    let room : c.put_number-after.result + 22 ≤ length c.put_number-after.new.out = let p = c.put_number-after.ensures in omega (arith, p.ends, put_length _ p, byte_short c.args.number (omega (arith, c.ranges.number))) in
+    let last_room : (c.put_shown-last.result + 1 ≤ length c.put_shown-last.new.out) × (length c.put_shown-last.new.out ≡ length c.args.out.now) = let p = c.put_shown-last.ensures in let long = put_length _ p ∙ length-set c.put_number-after.new.out c.put_number-after.result space in (omega (arith, p.ends, long, room, column_short (values_of c.args.time)), long ∙ put_length _ c.put_number-after.ensures) in
     omega (arith, last_room.0, last_room.1)
 
 pub returns : goal.returns
 returns c =
-    let s = c in
-    let d = s in
-    let a = d.args in
-    put_then (decimal a.number) (space ∷ (column (values_of a.time) ++ (newline ∷ []))) d.put_number-after.ensures
+    let a = c.args in
+    put_then (decimal a.number) (space ∷ (column (values_of a.time) ++ (newline ∷ []))) c.put_number-after.ensures
     (put_then (space ∷ []) (column (values_of a.time) ++ (newline ∷ [])) (record { ends = refl; stands = refl })
-    (put_then (column (values_of a.time)) (newline ∷ []) s.put_shown-last.ensures (record { ends = refl; stands = refl })))
+    (put_then (column (values_of a.time)) (newline ∷ []) c.put_shown-last.ensures (record { ends = refl; stands = refl })))

@@ -16,30 +16,21 @@ returns-then-len-at-lt-LINE_ROOM c = let a = c.args in no_room a.out.now a.at a.
 
 pub returns-in-Answer : goal.returns-in-Answer
 returns-in-Answer c =
-    let p = c in
-    let m = p in
-    let a = m.args in
-    room a.out.now a.at a.line _ _ (omega arith) m.in-Answer.is (omega arith) p.put_pair.ensures
+    let a = c.args in
+    room a.out.now a.at a.line _ _ (omega arith) c.in-Answer.is (omega arith) c.put_pair.ensures
 
 pub returns-in-Pick : goal.returns-in-Pick
 unfolding puts
 returns-in-Pick c =
-    let p = c in
-    let t = p in
-    let m = t in
-    let a = m.args in
-    room a.out.now a.at a.line _ _ (omega arith) m.in-Pick.is (omega arith) (p.put_pair-in-Pick.ensures ∙ and_then (pick_word ∷ []) (_ ∷ space ∷ _ ∷ line_end ∷ []) _ _ _ _ t.put_text-after.ensures)
+    let a = c.args in
+    room a.out.now a.at a.line _ _ (omega arith) c.in-Pick.is (omega arith) (c.put_pair-in-Pick.ensures ∙ and_then (pick_word ∷ []) (_ ∷ space ∷ _ ∷ line_end ∷ []) _ _ _ _ c.put_text-after.ensures)
 
 pub returns-in-Refused : goal.returns-in-Refused
 returns-in-Refused c =
-    let p = c in
-    let m = p in
-    let a = m.args in
-    room a.out.now a.at a.line _ _ (omega arith) m.in-Refused.is (omega arith) p.put_last.ensures
+    let a = c.args in
+    room a.out.now a.at a.line _ _ (omega arith) c.in-Refused.is (omega arith) c.put_last.ensures
 
 pub returns-in-Stop : goal.returns-in-Stop
 returns-in-Stop c =
-    let p = c in
-    let m = p in
-    let a = m.args in
-    room a.out.now a.at a.line _ _ (omega arith) m.in-Stop.is (omega arith) p.put_stop.ensures
+    let a = c.args in
+    room a.out.now a.at a.line _ _ (omega arith) c.in-Stop.is (omega arith) c.put_stop.ensures

@@ -19,22 +19,16 @@ returns-in-Nothing c =
 
 pub returns-in-NotSetUp : goal.returns-in-NotSetUp
 returns-in-NotSetUp c =
-    let p = c in
-    let m = p in
-    let a = m.args in
-    noted a.out.now a.at a.note _ _ (omega arith) m.in-NotSetUp.is (omega arith) p.put_refused_set_up.ensures
+    let a = c.args in
+    noted a.out.now a.at a.note _ _ (omega arith) c.in-NotSetUp.is (omega arith) c.put_refused_set_up.ensures
 
 pub returns-in-Unreadable : goal.returns-in-Unreadable
 returns-in-Unreadable c =
-    let p = c in
-    let m = p in
-    let a = m.args in
-    noted a.out.now a.at a.note _ _ (omega arith) m.in-Unreadable.is (omega arith) p.put_unreadable.ensures
+    let a = c.args in
+    noted a.out.now a.at a.note _ _ (omega arith) c.in-Unreadable.is (omega arith) c.put_unreadable.ensures
 
 pub returns-in-TooManyFrames : goal.returns-in-TooManyFrames
 unfolding puts
 returns-in-TooManyFrames c =
-    let p = c in
-    let m = p in
-    let a = m.args in
-    noted a.out.now a.at a.note _ _ (omega arith) m.in-TooManyFrames.is (omega arith) p.put_text.ensures
+    let a = c.args in
+    noted a.out.now a.at a.note _ _ (omega arith) c.in-TooManyFrames.is (omega arith) c.put_text.ensures

@@ -5,6 +5,4 @@ use Rattle.replay_text.proofs.put_refused_set_up.Goals as goal
 
 pub returns : goal.returns
 returns c =
-    let l = c in
-    let f = l in
-    l.put_last.ensures ∙ and_then _ _ _ _ _ _ f.put_field-after.ensures
+    c.put_last.ensures ∙ and_then _ _ _ _ _ _ c.put_field-after.ensures

@@ -5,13 +5,8 @@ use Rattle.replay_text.proofs.put_stop.Goals as goal
 
 pub returns : goal.returns
 returns c =
-    let l = c in
-    let f4 = l in
-    let f3 = f4 in
-    let f2 = f3 in
-    let f1 = f2 in
-    l.put_last.ensures
-    ∙ and_then _ _ _ _ _ _ f4.put_field-after_events.ensures
-    ∙ and_then _ _ _ _ _ _ f3.put_field-after_free.ensures
-    ∙ and_then _ _ _ _ _ _ f2.put_field-after_next.ensures
-    ∙ and_then _ _ _ _ _ _ f1.put_field-after_number.ensures
+    c.put_last.ensures
+    ∙ and_then _ _ _ _ _ _ c.put_field-after_events.ensures
+    ∙ and_then _ _ _ _ _ _ c.put_field-after_free.ensures
+    ∙ and_then _ _ _ _ _ _ c.put_field-after_next.ensures
+    ∙ and_then _ _ _ _ _ _ c.put_field-after_number.ensures
