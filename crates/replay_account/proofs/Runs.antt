@@ -1,17 +1,13 @@
 -- Laws of what there is to tell of a run. Assumes nothing.
 use mathlib.Core.Path.{◌≡◌, refl, sym, ap, ◌∙◌}
-use mathlib.Core.Logic.{inl, inr}
-use mathlib.Core.List.{[], ◌∷◌}
 use Prim.Native.Nat.{ℕ, ◌≤◌}
 use native.Mathlib.Omega.{arith}
 use lib.ListN.{length}
-use types.Run.{OneOf}
 use mir.Val.{WT}
-use denote.Enum.Declared.{tag_of}
 use denote.Enum.Laws.{val}
-use Rattle.event.specs.contracts.Stop as stop-type
 use Rattle.replay_text.specs.contracts.Line as line-type
 use Rattle.replay_text.proofs.Line.TheLaws as line-laws
+use Rattle.quantity.specs.declared.Refusal.{Refusal}
 use Rattle.quantity.proofs.Refusals.{refusal_number}
 use Rattle.event.specs.Next.{stop_number}
 use Rattle.event.specs.declared.Stop.{Stop}
@@ -26,19 +22,16 @@ use Rattle.replay_account.specs.Account.{account_refused, account_stopped, accou
 -- ---- by the stop
 
 -- a run that was not refused: its stop is one of the others
-not_refused : (x : Stop) → OneOf (0 ∷ 1 ∷ 2 ∷ 3 ∷ []) (tag_of stop-type.the_type x) → (r : Ran) → account_stopped r ≡ account_by x r
+not_refused : (x : Stop) → ((why : Refusal) → x ≡ stop.Refused why → ⊥) → (r : Ran) → account_stopped r ≡ account_by x r
 unfolding account_by
 not_refused stop.Done h r = refl
 not_refused stop.BudgetSpent h r = refl
 not_refused stop.TooLate h r = refl
 not_refused stop.PicksFull h r = refl
-not_refused (stop.Refused why) (inl e) r = absurd (omega arith)
-not_refused (stop.Refused why) (inr (inl e)) r = absurd (omega arith)
-not_refused (stop.Refused why) (inr (inr (inl e))) r = absurd (omega arith)
-not_refused (stop.Refused why) (inr (inr (inr e))) r = absurd (omega arith)
+not_refused (stop.Refused why) h r = absurd (h why refl)
 
 module _ (r : Ran) (n : ℕ) (is : n ≡ stop_number r.stop) where
-  pub stopped : OneOf (0 ∷ 1 ∷ 2 ∷ 3 ∷ []) (tag_of stop-type.the_type r.stop)
+  pub stopped : ((why : Refusal) → r.stop ≡ stop.Refused why → ⊥)
       → record { frames = r.next; picks = r.picks; last = line.Stop n r.next r.free r.events r.picks } ≡ account_of r
   unfolding account_of account_stopped
   stopped h =
