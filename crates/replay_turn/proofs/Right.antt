@@ -24,7 +24,7 @@ use Rattle.intake.specs.declared.Told.TheVariants.{Ended}
 use Rattle.intake.specs.declared.Next.TheVariants.{Ends}
 use Rattle.replay_gathering.specs.Gathering.{State, Outcome, begun}
 use Rattle.replay_gathering.specs.declared.End.{End}
-use Rattle.replay_gathering.specs.declared.End.TheVariants.{NothingLeft, Unreadable, ListsFull}
+use Rattle.replay_gathering.specs.declared.End.TheVariants.{ListsFull}
 use Rattle.replay_gathering.proofs.Parts.{resumed}
 use Rattle.replay_text.specs.Notes.{note_text}
 use Rattle.replay_text.specs.declared.Note.{Note}
