@@ -1,0 +1,32 @@
+-- `replay::read_table` meets its contract: it makes each turn where it may, and what it returns as a whole has ended. Assumes nothing.
+use Rattle.replay.proofs.Rolling.{begins, turns, rolls_on, reads_on}
+use Rattle.replay.proofs.Telling.{counts}
+use Rattle.replay.proofs.read_table.Goals as goal
+
+pub loop-turn-init : goal.loop-turn-init
+loop-turn-init g c = begins _ _ _ _ _ _ c.begin-standing.ensures c.requires.0 c.requires.1
+
+pub slice_bounds-write_out-end : goal.slice_bounds-write_out-end
+slice_bounds-write_out-end g c =
+    let t = turns _ _ _ _ _ _ _ _ _ _ _ _ _ _ _ c.loop-turn.invariant c.gather_on-turned.ensures in
+    t.written
+
+pub slice_bounds-write_out-end-in-loop-turn : goal.slice_bounds-write_out-end-in-loop-turn
+slice_bounds-write_out-end-in-loop-turn g c =
+    let t = turns _ _ _ _ _ _ _ _ _ _ _ _ _ _ _ c.loop-turn.invariant c.gather_on-turned.ensures in
+    counts _ _ t.written
+
+pub loop-turn-preserved-in-GoesOn : goal.loop-turn-preserved-in-GoesOn
+loop-turn-preserved-in-GoesOn g c =
+    let t = turns _ _ _ _ _ _ _ _ _ _ _ _ _ _ _ c.loop-turn.invariant c.gather_on-turned.ensures in
+    rolls_on _ _ _ _ _ _ _ _ _ t c.in-GoesOn.is
+
+pub loop-turn-preserved : goal.loop-turn-preserved
+loop-turn-preserved g c =
+    let t = turns _ _ _ _ _ _ _ _ _ _ _ _ _ _ _ c.loop-turn.invariant c.gather_on-turned.ensures in
+    reads_on _ _ _ _ _ _ _ _ _ t c.in-Reads.is c.read_behind-came.result _ _ c.read_behind-came.auto.bytes c.read_behind-came.ensures.read c.with_held-standing.ensures
+
+pub returns-in-Ends : goal.returns-in-Ends
+returns-in-Ends g c =
+    let t = turns _ _ _ _ _ _ _ _ _ _ _ _ _ _ _ c.loop-turn.invariant c.gather_on-turned.ensures in
+    (λ e. t.ahead.ends c.in-Ends.is, t.few, t.lent.lists)
