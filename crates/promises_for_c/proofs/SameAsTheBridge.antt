@@ -23,7 +23,7 @@ use Rattle.calls.specs.Calls.{group_placed, stream_placed}
 use Rattle.calls.specs.Numbers.{set_up_number}
 use Rattle.bridge.specs.Tables.{no_stream, fresh_bridge, group_at, stream_at}
 use Rattle.bridge.specs.Calls.{group_called, stream_called, frame_called}
-use Rattle.bridge.specs.History.{reply, after_call, outcome, outcome_of, group, stream, frame}
+use Rattle.bridge.specs.History.{reply, after_call, outcome, outcome_of, frame}
 use Rattle.bridge.specs.declared.BridgeSetUp.{BridgeSetUp}
 use Rattle.bridge.specs.declared.Framed.{Framed}
 use Rattle.bridge.proofs.Tables.{group_call, stream_call}

@@ -28,7 +28,7 @@ use Rattle.line.proofs.Turns.{gives_unfit, gives_off_line, gives_run}
 use Rattle.line.proofs.Happening.{arrived_sound, picked_sound}
 use Rattle.line.proofs.Promises.{runs, run_is_its_events, plainly}
 use Rattle.promises_of_runs.specs.Steps.{Run, beginning, ran_on}
-use Rattle.promises_of_runs.specs.Queues.{ShapedAndSound, RunKeepsQueues, Reached, start, entering, picking, running, RunsReachNothingElse, ReachedIsSound, ReachedIsNeverRefused}
+use Rattle.promises_of_runs.specs.Queues.{ShapedAndSound, RunKeepsQueues, start, entering, picking, running, RunsReachNothingElse, ReachedIsSound, ReachedIsNeverRefused}
 
 -- ---- sound queues
 takes_sound : {i : Input} {left : ℕ} {s : State} {k : ℕ} {why : Stop} {s' : State} → Takes i left s k why s' → Sound s → Sound s'

@@ -11,5 +11,4 @@ returns-in-Unset c = sym (ap (λ (k : Regulator). above_burst k c.args.bits.0) c
 pub returns-in-Bucket : goal.returns-in-Bucket
 unfolding above_burst
 returns-in-Bucket c =
-    let k = c in
-    sym (ap (λ (x : Regulator). above_burst x k.args.bits.0) k.in-Bucket.is)
+    sym (ap (λ (x : Regulator). above_burst x c.args.bits.0) c.in-Bucket.is)

@@ -23,7 +23,6 @@ unfolding sound
 returns-then-not-in_range-2 c =
     let group_sound : sound_group c.args.group ≡ true = confirmed c.sound_group.ensures c.if-not-sound_group.false in
     let id_in : in_range GroupId c.args.stream.group ≡ true = confirmed c.in_range.ensures c.if-not-in_range.false in
-    let e = c in
     simp (group_sound, id_in, refuted c.in_range-2.ensures c.if-not-in_range-2.true)
 
 pub returns-in-Unset : goal.returns-in-Unset
@@ -33,8 +32,7 @@ returns-in-Unset c =
     let id_in : in_range GroupId c.args.stream.group ≡ true = confirmed c.in_range.ensures c.if-not-in_range.false in
     let rate_in : in_range StreamRate c.args.stream.rate.0 ≡ true = confirmed c.in_range-2.ensures c.if-not-in_range-2.false in
     let last_test : let a = c.args in sound_regulator a.stream.rate.0 a.group.time.0 a.stream.regulator ≡ sound a.stream a.group = let e = c in simp (group_sound, id_in, rate_in) in
-    let e = c in
-    let a = e.args in
+    let a = c.args in
     sym (ap (λ (k : Regulator). sound_regulator a.stream.rate.0 a.group.time.0 k) c.in-Unset.is) ∙ last_test
 
 pub returns-in-Bucket : goal.returns-in-Bucket

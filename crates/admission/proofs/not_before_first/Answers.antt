@@ -1,4 +1,5 @@
 -- `admission::not_before_first` meets its contract: from tick 0 on there is nothing to reckon, before it the division says. Assumes nothing.
+use borrow.Author.Rules.{rules}
 use mathlib.Core.Path.{◌≡◌, ap, ◌∙◌}
 use mathlib.Core.Bool.{true}
 use Prim.Native.Nat.{ℕ, ◌+◌, ◌/◌, ◌<◌, ◌^◌}
@@ -17,18 +18,16 @@ use Rattle.admission.proofs.not_before_first.Goals as goal
 
 pub returns-then-ticks-ge0 : goal.returns-then-ticks-ge0
 returns-then-ticks-ge0 c =
-    let ticks_fit : SFits w64 c.args.empty.ticks = record { sfits = c.struct_told-1.given.0.1 } in
+    let ticks_fit : SFits w64 c.args.empty.ticks = search rules in
     let a = c.args in
     from_start a.rate.0 a.empty (omega (arith, c.requires)) a.burst.0 (rw (to_z-of_z ticks_fit) at c.if-ticks-ge0.true)
 
 pub returns : goal.returns
 returns c =
-    let ticks_fit : SFits w64 c.args.empty.ticks = record { sfits = c.struct_told-1.given.0.1 } in
+    let ticks_fit : SFits w64 c.args.empty.ticks = search rules in
     let before_start : lt_z c.args.empty.ticks (pos 0) ≡ true = below_zero c.args.empty.ticks (rw (to_z-of_z ticks_fit) at c.if-ticks-ge0.false) in
     let quotient : ℕ = (bit_time c.args.burst.0 + c.args.empty.part) / c.args.rate.0 in
     let most : quotient < 2 ^ 63 = omega (arith, c.requires, div-le_self (bit_time c.args.burst.0 + c.args.empty.part) c.args.rate.0) in
     let room : or_zero c.args.empty.ticks + quotient < 2 ^ 63 = omega (arith, most, is_negative c.args.empty.ticks before_start) in
-    let e = c in
-    let s = e in
-    ap (le_z (pos 0)) (sum_is s.args.empty.ticks (quotient) ticks_fit room)
-    ∙ by_division s.args.rate.0 s.args.empty (omega (arith, s.requires)) s.args.burst.0 before_start
+    ap (le_z (pos 0)) (sum_is c.args.empty.ticks quotient ticks_fit room)
+    ∙ by_division c.args.rate.0 c.args.empty (omega (arith, c.requires)) c.args.burst.0 before_start

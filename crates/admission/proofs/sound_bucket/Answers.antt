@@ -20,20 +20,15 @@ returns-then-part-r c =
 
 pub returns-then-not-not_after : goal.returns-then-not-not_after
 returns-then-not-not_after c =
-    let e = c in
-    let a = e.args in
+    let a = c.args in
     sym (empty_after a.rate.0 a.time.0 a.burst a.empty (confirmed c.in_range.ensures c.if-not-in_range.false) (omega arith) (refuted (c.not_after.ensures a.rate.0 (omega arith)) c.if-not-not_after.true))
 
 pub not_before_first-requires : goal.not_before_first-requires
 not_before_first-requires c =
-    let e = c in
-    let s = e in
-    omega (arith, at_most Burst s.args.burst.0 (confirmed c.in_range.ensures c.if-not-in_range.false), at_most StreamRate s.args.rate.0 s.requires)
+    omega (arith, at_most Burst c.args.burst.0 (confirmed c.in_range.ensures c.if-not-in_range.false), at_most StreamRate c.args.rate.0 c.requires)
 
 pub returns : goal.returns
 returns c =
-    let f = c in
-    let e = f in
-    let a = e.args in
+    let a = c.args in
     c.not_before_first.ensures
-    ∙ by_first a.rate.0 a.time.0 a.burst a.empty (confirmed c.in_range.ensures c.if-not-in_range.false) (omega arith) (confirmed (f.not_after.ensures a.rate.0 (omega arith)) f.if-not-not_after.false)
+    ∙ by_first a.rate.0 a.time.0 a.burst a.empty (confirmed c.in_range.ensures c.if-not-in_range.false) (omega arith) (confirmed (c.not_after.ensures a.rate.0 (omega arith)) c.if-not-not_after.false)

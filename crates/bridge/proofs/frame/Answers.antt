@@ -48,8 +48,5 @@ bounds-groups-of-2 c =
 
 pub returns : goal.returns
 returns c =
-    let j = c in
-    let q = j in
-    let p = q in
-    let a = p.args in
-    frame_call a.bridge a.id a.octets a.arrival.0 p.place_of-at.result q.place_of-of.result p.place_of-at.ensures q.place_of-of.ensures j.judge_at-judged.result j.judge_at-judged.ensures
+    let a = c.args in
+    frame_call a.bridge a.id a.octets a.arrival.0 c.place_of-at.result c.place_of-of.result c.place_of-at.ensures c.place_of-of.ensures c.judge_at-judged.result c.judge_at-judged.ensures

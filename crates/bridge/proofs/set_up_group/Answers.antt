@@ -28,7 +28,5 @@ bounds-groups-at-2 c =
 
 pub returns : goal.returns
 returns c =
-    let q = c in
-    let p = q in
-    let a = p.args in
-    group_call a.bridge a.id a.class a.residence.0 p.place_of-at.result p.place_of-at.ensures q.place_group-placed.result q.place_group-placed.ensures
+    let a = c.args in
+    group_call a.bridge a.id a.class a.residence.0 c.place_of-at.result c.place_of-at.ensures c.place_group-placed.result c.place_group-placed.ensures

@@ -38,8 +38,5 @@ bounds-streams-at-2 c =
 
 pub returns : goal.returns
 returns c =
-    let q = c in
-    let k = q in
-    let p = k in
-    let a = p.args in
-    stream_call a.bridge a.id a.group a.rate.0 a.burst.0 p.place_of-at.result k.place_of-of.result p.place_of-at.ensures k.place_of-of.ensures q.place_stream-placed.result q.place_stream-placed.ensures
+    let a = c.args in
+    stream_call a.bridge a.id a.group a.rate.0 a.burst.0 c.place_of-at.result c.place_of-of.result c.place_of-at.ensures c.place_of-of.ensures c.place_stream-placed.result c.place_stream-placed.ensures

@@ -11,6 +11,5 @@ returns-then-not-in_range c =
 
 pub returns : goal.returns
 returns c =
-    let e = c in
-    let a = e.args in
-    c.judge.ensures ∙ sym (frame_id_in a.id a.stream a.group a.octets a.arrival.0 (confirmed e.in_range.ensures e.if-not-in_range.false))
+    let a = c.args in
+    c.judge.ensures ∙ sym (frame_id_in a.id a.stream a.group a.octets a.arrival.0 (confirmed c.in_range.ensures c.if-not-in_range.false))

@@ -10,34 +10,26 @@ use Rattle.calls.proofs.place_group.Goals as goal
 
 pub returns-then-not-in_range : goal.returns-then-not-in_range
 returns-then-not-in_range c =
-    let t = c in
-    let a = t.args in
-    c.kept_group.ensures ∙ sym (group_id_out a.id a.group a.class a.residence.0 (refuted t.in_range.ensures t.if-not-in_range.true))
+    let a = c.args in
+    c.kept_group.ensures ∙ sym (group_id_out a.id a.group a.class a.residence.0 (refuted c.in_range.ensures c.if-not-in_range.true))
 
 pub returns-then-used : goal.returns-then-used
 returns-then-used c =
     let id_in : in_range GroupId c.args.id ≡ true = confirmed c.in_range.ensures c.if-not-in_range.false in
-    let t = c in
-    let a = t.args in
-    c.kept_group-then-used.ensures ∙ sym (group_before a.id a.group a.class a.residence.0 id_in t.if-used.true)
+    let a = c.args in
+    c.kept_group-then-used.ensures ∙ sym (group_before a.id a.group a.class a.residence.0 id_in c.if-used.true)
 
 pub returns-in-Refused : goal.returns-in-Refused
 unfolding group_taken
 returns-in-Refused c =
     let id_in : in_range GroupId c.args.id ≡ true = confirmed c.in_range.ensures c.if-not-in_range.false in
-    let w = c in
-    let u = w in
-    let e = u in
-    let a = e.args in
+    let a = c.args in
     c.kept_group-in-Refused.ensures
-    ∙ sym (group_taken_law a.id a.group a.class a.residence.0 id_in e.if-used.false ∙ ap (group_taken a.group) (sym u.set_up_group.ensures ∙ w.in-Refused.is))
+    ∙ sym (group_taken_law a.id a.group a.class a.residence.0 id_in c.if-used.false ∙ ap (group_taken a.group) (sym c.set_up_group.ensures ∙ c.in-Refused.is))
 
 pub returns-in-Done : goal.returns-in-Done
 unfolding group_taken
 returns-in-Done c =
     let id_in : in_range GroupId c.args.id ≡ true = confirmed c.in_range.ensures c.if-not-in_range.false in
-    let f = c in
-    let u = f in
-    let e = u in
-    let a = e.args in
-    sym (group_taken_law a.id a.group a.class a.residence.0 id_in e.if-used.false ∙ ap (group_taken a.group) (sym u.set_up_group.ensures ∙ f.in-Done.is))
+    let a = c.args in
+    sym (group_taken_law a.id a.group a.class a.residence.0 id_in c.if-used.false ∙ ap (group_taken a.group) (sym c.set_up_group.ensures ∙ c.in-Done.is))

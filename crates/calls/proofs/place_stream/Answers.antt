@@ -10,35 +10,26 @@ use Rattle.calls.proofs.place_stream.Goals as goal
 
 pub returns-then-not-in_range : goal.returns-then-not-in_range
 returns-then-not-in_range c =
-    let t = c in
-    let a = t.args in
-    c.kept_stream.ensures ∙ sym (stream_id_out a.id a.stream a.in_group a.group a.rate.0 a.burst.0 (refuted t.in_range.ensures t.if-not-in_range.true))
+    let a = c.args in
+    c.kept_stream.ensures ∙ sym (stream_id_out a.id a.stream a.in_group a.group a.rate.0 a.burst.0 (refuted c.in_range.ensures c.if-not-in_range.true))
 
 pub returns-then-is_set_up : goal.returns-then-is_set_up
 returns-then-is_set_up c =
     let id_in : in_range StreamId c.args.id ≡ true = confirmed c.in_range.ensures c.if-not-in_range.false in
-    let t = c in
-    let u = t in
-    let a = u.args in
-    c.kept_stream-then-is_set_up.ensures ∙ sym (stream_before a.id a.stream a.in_group a.group a.rate.0 a.burst.0 id_in (sym u.is_set_up.ensures ∙ t.if-is_set_up.true))
+    let a = c.args in
+    c.kept_stream-then-is_set_up.ensures ∙ sym (stream_before a.id a.stream a.in_group a.group a.rate.0 a.burst.0 id_in (sym c.is_set_up.ensures ∙ c.if-is_set_up.true))
 
 pub returns-in-Refused : goal.returns-in-Refused
 unfolding stream_taken
 returns-in-Refused c =
     let id_in : in_range StreamId c.args.id ≡ true = confirmed c.in_range.ensures c.if-not-in_range.false in
-    let w = c in
-    let u = w in
-    let e = u in
-    let a = e.args in
+    let a = c.args in
     c.kept_stream-in-Refused.ensures
-    ∙ sym (stream_taken_law a.id a.stream a.in_group a.group a.rate.0 a.burst.0 id_in (sym e.is_set_up.ensures ∙ e.if-is_set_up.false) ∙ ap (stream_taken a.stream) (sym u.set_up_stream.ensures ∙ w.in-Refused.is))
+    ∙ sym (stream_taken_law a.id a.stream a.in_group a.group a.rate.0 a.burst.0 id_in (sym c.is_set_up.ensures ∙ c.if-is_set_up.false) ∙ ap (stream_taken a.stream) (sym c.set_up_stream.ensures ∙ c.in-Refused.is))
 
 pub returns-in-Done : goal.returns-in-Done
 unfolding stream_taken
 returns-in-Done c =
     let id_in : in_range StreamId c.args.id ≡ true = confirmed c.in_range.ensures c.if-not-in_range.false in
-    let f = c in
-    let u = f in
-    let e = u in
-    let a = e.args in
-    sym (stream_taken_law a.id a.stream a.in_group a.group a.rate.0 a.burst.0 id_in (sym e.is_set_up.ensures ∙ e.if-is_set_up.false) ∙ ap (stream_taken a.stream) (sym u.set_up_stream.ensures ∙ f.in-Done.is))
+    let a = c.args in
+    sym (stream_taken_law a.id a.stream a.in_group a.group a.rate.0 a.burst.0 id_in (sym c.is_set_up.ensures ∙ c.if-is_set_up.false) ∙ ap (stream_taken a.stream) (sym c.set_up_stream.ensures ∙ c.in-Done.is))

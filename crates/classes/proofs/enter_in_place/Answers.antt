@@ -9,36 +9,26 @@ returns-then-class-gt-LAST_CLASS c = enter_nowhere _ _ _ (omega arith)
 
 pub returns-then-not-class_sound : goal.returns-then-not-class_sound
 returns-then-not-class_sound c =
-    let s = c in
-    enter_unsound _ _ _ (omega arith) (sym s.class_sound.ensures ∙ c.if-not-class_sound.true)
+    enter_unsound _ _ _ (omega arith) (sym c.class_sound.ensures ∙ c.if-not-class_sound.true)
 
 pub returns-then-not-in_range : goal.returns-then-not-in_range
 returns-then-not-in_range c =
-    let s = c in
-    enter_charge _ _ _ (omega arith) (sym s.class_sound.ensures ∙ c.if-not-class_sound.false)
+    enter_charge _ _ _ (omega arith) (sym c.class_sound.ensures ∙ c.if-not-class_sound.false)
     (sym c.in_range.ensures ∙ c.if-not-in_range.true)
 
 pub returns-then-not-in_range-2 : goal.returns-then-not-in_range-2
 returns-then-not-in_range-2 c =
-    let b = c in
-    let s = b in
-    enter_late _ _ _ (omega arith) (sym s.class_sound.ensures ∙ b.if-not-class_sound.false)
-    (sym b.in_range.ensures ∙ c.if-not-in_range.false) (sym c.in_range-2.ensures ∙ c.if-not-in_range-2.true)
+    enter_late _ _ _ (omega arith) (sym c.class_sound.ensures ∙ c.if-not-class_sound.false)
+    (sym c.in_range.ensures ∙ c.if-not-in_range.false) (sym c.in_range-2.ensures ∙ c.if-not-in_range-2.true)
 
 pub returns-then-not-put : goal.returns-then-not-put
 returns-then-not-put c =
-    let t = c in
-    let b = t in
-    let s = b in
-    enter_full _ _ _ (omega arith) (sym s.class_sound.ensures ∙ b.if-not-class_sound.false)
-    (sym b.in_range.ensures ∙ t.if-not-in_range.false) (sym t.in_range-2.ensures ∙ c.if-not-in_range-2.false)
+    enter_full _ _ _ (omega arith) (sym c.class_sound.ensures ∙ c.if-not-class_sound.false)
+    (sym c.in_range.ensures ∙ c.if-not-in_range.false) (sym c.in_range-2.ensures ∙ c.if-not-in_range-2.false)
     _ c.put.ensures c.if-not-put.true
 
 pub returns : goal.returns
 returns c =
-    let t = c in
-    let b = t in
-    let s = b in
-    enter_done _ _ _ (omega arith) (sym s.class_sound.ensures ∙ b.if-not-class_sound.false)
-    (sym b.in_range.ensures ∙ t.if-not-in_range.false) (sym t.in_range-2.ensures ∙ c.if-not-in_range-2.false)
+    enter_done _ _ _ (omega arith) (sym c.class_sound.ensures ∙ c.if-not-class_sound.false)
+    (sym c.in_range.ensures ∙ c.if-not-in_range.false) (sym c.in_range-2.ensures ∙ c.if-not-in_range-2.false)
     _ c.put.ensures c.if-not-put.false

@@ -11,18 +11,15 @@ loop-above-init c = (refl, omega arith)
 
 pub returns-then-time-moment : goal.returns-then-time-moment
 returns-then-time-moment c =
-    let p = c in
-    let f = p in
-    due_here _ _ _ _ f.loop-above-test.true _ f.first_least.ensures _ _ p.in-At.is c.if-time-moment.true ∙ f.loop-above.invariant.0
+    due_here _ _ _ _ c.loop-above-test.true _ c.first_least.ensures _ _ c.in-At.is c.if-time-moment.true ∙ c.loop-above.invariant.0
 
 pub loop-above-preserved : goal.loop-above-preserved
 loop-above-preserved c =
-    let f = c in
-    let h = f.loop-above-test.true in
-    let v = f.loop-above.invariant in (
+    let h = c.loop-above-test.true in
+    let v = c.loop-above.invariant in (
       elim c.match-first_least.branch [
-        | goal.in-At+else-time-moment w ↦ due_later _ _ _ _ h _ f.first_least.ensures _ _ w.in-At.is w.if-time-moment.false
-        | goal.in_default w ↦ due_none _ _ _ _ h _ f.first_least.ensures w.in_default.is
+        | goal.in-At+else-time-moment w ↦ due_later _ _ _ _ h _ c.first_least.ensures _ _ w.in-At.is w.if-time-moment.false
+        | goal.in_default w ↦ due_none _ _ _ _ h _ c.first_least.ensures w.in_default.is
       ] ∙ v.0,
       omega arith,
     )

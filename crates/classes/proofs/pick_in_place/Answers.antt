@@ -8,13 +8,8 @@ returns-then-not-all_sound c = pick_unsound _ _ (sym c.all_sound.ensures ∙ c.i
 
 pub returns-in-From : goal.returns-in-From
 returns-in-From c =
-    let d = c in
-    let h = d in
-    let e = h in
-    pick_from _ _ _ (sym e.all_sound.ensures ∙ e.if-not-all_sound.false) h.highest_due-due.ensures _ _ _ d.in-From.is c.take_out.ensures
+    pick_from _ _ _ (sym c.all_sound.ensures ∙ c.if-not-all_sound.false) c.highest_due-due.ensures _ _ _ c.in-From.is c.take_out.ensures
 
 pub returns-in-NoneDue : goal.returns-in-NoneDue
 returns-in-NoneDue c =
-    let h = c in
-    let e = h in
-    pick_nothing _ _ _ (sym e.all_sound.ensures ∙ e.if-not-all_sound.false) h.highest_due-due.ensures c.in-NoneDue.is
+    pick_nothing _ _ _ (sym c.all_sound.ensures ∙ c.if-not-all_sound.false) c.highest_due-due.ensures c.in-NoneDue.is

@@ -10,15 +10,11 @@ use Rattle.console.proofs.put_edge.Goals as goal
 pub returns-in-Reading : goal.returns-in-Reading
 unfolding edge_word
 returns-in-Reading c =
-    let p = c in
-    let e = p in
-    let a = e.args in
-    p.put_field.ensures ∙ sym (ap (λ (x : Edge). puts a.out.now 0 (edge_word x ∷ decimal a.failure.records ∷ [])) e.in-Reading.is)
+    let a = c.args in
+    c.put_field.ensures ∙ sym (ap (λ (x : Edge). puts a.out.now 0 (edge_word x ∷ decimal a.failure.records ∷ [])) c.in-Reading.is)
 
 pub returns-in-Writing : goal.returns-in-Writing
 unfolding edge_word
 returns-in-Writing c =
-    let p = c in
-    let e = p in
-    let a = e.args in
-    p.put_field-in-Writing.ensures ∙ sym (ap (λ (x : Edge). puts a.out.now 0 (edge_word x ∷ decimal a.failure.records ∷ [])) e.in-Writing.is)
+    let a = c.args in
+    c.put_field-in-Writing.ensures ∙ sym (ap (λ (x : Edge). puts a.out.now 0 (edge_word x ∷ decimal a.failure.records ∷ [])) c.in-Writing.is)

@@ -9,9 +9,6 @@ use Rattle.console.proofs.put_failure.Goals as goal
 pub returns : goal.returns
 unfolding puts failure_parts
 returns c =
-    let t = c in
-    let f = t in
-    let e = f in
-    t.put_text.ensures
-    ∙ and_then (records_word ∷ _ ∷ []) (bytes_word ∷ []) _ _ _ _ f.put_field-after_bytes.ensures
-    ∙ and_then (_ ∷ _ ∷ []) (records_word ∷ _ ∷ bytes_word ∷ []) _ _ _ _ e.put_edge-after_records.ensures
+    c.put_text.ensures
+    ∙ and_then (records_word ∷ _ ∷ []) (bytes_word ∷ []) _ _ _ _ c.put_field-after_bytes.ensures
+    ∙ and_then (_ ∷ _ ∷ []) (records_word ∷ _ ∷ bytes_word ∷ []) _ _ _ _ c.put_edge-after_records.ensures

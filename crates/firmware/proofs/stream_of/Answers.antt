@@ -1,4 +1,6 @@
 -- `firmware::stream_of` meets its contract. Assumes nothing.
+use borrow.Author.Rules.{rules}
+use mir.Val.{SFits}
 use mir.Syntax.{w64}
 use mir.Facts.{to_z-of_z}
 use Rattle.firmware.specs.Firmware.{stream_of}
@@ -14,4 +16,5 @@ pub returns : goal.returns
 unfolding stream_of
 returns c =
     let s = c.args.s in
-    simp (c.if-not-used.false, to_z-of_z {w = w64} {z = s.empty} (record { sfits = c.struct_told-1.given.1.1.1.1.0.1 }))
+    let fit : SFits w64 s.empty = search rules in
+    simp (c.if-not-used.false, to_z-of_z {w = w64} {z = s.empty} fit)

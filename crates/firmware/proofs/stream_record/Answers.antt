@@ -1,4 +1,6 @@
 -- `firmware::stream_record` meets its contract. Assumes nothing.
+use borrow.Author.Rules.{rules}
+use mir.Val.{SFits}
 use mathlib.Core.Path.{sym, ap}
 use mir.Syntax.{w64}
 use mir.Facts.{to_z-of_z}
@@ -15,6 +17,6 @@ returns-in-Unset c =
 pub returns-in-Bucket : goal.returns-in-Bucket
 unfolding stream_record rewritten
 returns-in-Bucket c =
-    let k = c in
-    let a = k.args in
-    rw (to_z-of_z {w = w64} (record { sfits = c.struct_told-1.given.0.1 })) (sym (ap (λ (x : Regulator). rewritten a.s a.after.group a.after.rate x) k.in-Bucket.is))
+    let a = c.args in
+    let fit : SFits w64 c.in-Bucket.empty.ticks = search rules in
+    rw (to_z-of_z {w = w64} fit) (sym (ap (λ (x : Regulator). rewritten a.s a.after.group a.after.rate x) c.in-Bucket.is))

@@ -4,13 +4,5 @@ use Rattle.firmware.proofs.tell_frame.Goals as goal
 
 pub returns : goal.returns
 returns c =
-    let s = c in
-    let t = s in
-    let n = t in
-    let j = n in
-    let o = j in
-    let h = o in
-    let x = h in
-    let i = x in
-    let a = i.args in
-    frame_told_law a.group a.id i.byte.ensures h.group_of.ensures a.stream x.stream_of.ensures a.octets a.arrival a.time o.half.ensures j.judge_in-judged.ensures n.answer_number.ensures t.time_after.ensures s.stream_record.ensures c.group_record.ensures
+    let a = c.args in
+    frame_told_law a.group a.id c.byte.ensures c.group_of.ensures a.stream c.stream_of.ensures a.octets a.arrival a.time c.half.ensures c.judge_in-judged.ensures c.answer_number.ensures c.time_after.ensures c.stream_record.ensures c.group_record.ensures

@@ -4,10 +4,5 @@ use Rattle.firmware.proofs.tell_group.Goals as goal
 
 pub returns : goal.returns
 returns c =
-    let n = c in
-    let p = n in
-    let b = p in
-    let h = b in
-    let i = h in
-    let a = i.args in
-    group_told_law a.group a.id i.byte.ensures h.group_of.ensures a.class a.residence b.byte-2.ensures p.place_group-placed.ensures n.set_up_number.ensures c.group_record.ensures
+    let a = c.args in
+    group_told_law a.group a.id c.byte.ensures c.group_of.ensures a.class a.residence c.byte-2.ensures c.place_group-placed.ensures c.set_up_number.ensures c.group_record.ensures

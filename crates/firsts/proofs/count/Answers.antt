@@ -1,5 +1,4 @@
 -- `firsts::count` meets its contract. Assumes nothing.
-use borrow.Author.Rules.{rules}
 use native.Mathlib.Omega.{arith}
 use Rattle.places.proofs.Counts.{none_beyond, none_overfull, count_is}
 use Rattle.firsts.proofs.count.Goals as goal

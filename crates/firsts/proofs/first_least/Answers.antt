@@ -1,10 +1,6 @@
 -- `firsts::first_least` meets its contract: what is left to look at gives what the whole gives. Assumes nothing.
-use borrow.Author.Rules.{rules}
-use mathlib.Core.Path.{◌≡◌, sym, ◌∙◌}
-use mathlib.Core.Logic.{⊎_elim}
-use Prim.Native.Nat.{◌+◌, ◌-◌, ◌≤◌}
+use mathlib.Core.Path.{sym, ◌∙◌}
 use native.Mathlib.Omega.{arith}
-use Rattle.firsts.specs.Firsts.{part, first_from, first_of}
 use Rattle.firsts.proofs.Firsts.{next_new, next_old, step_done, no_entry, first_start}
 use Rattle.firsts.proofs.first_least.Goals as goal
 use Rattle.firsts.proofs.first_least.Goals.{then-t-least, else-t-least}
@@ -19,11 +15,13 @@ loop-k-init c =
 pub loop-k-preserved : goal.loop-k-preserved
 loop-k-preserved c =
     let v = c.loop-k.invariant in
-    let h = c.loop-k-test.true in
-    (elim c.if-t-least.branch [
-      | then-t-least w ↦ next_new _ _ _ _ _ _ _ _ h w.if-t-least.true w.place-is w.least-is
-      | else-t-least w ↦ next_old _ _ _ _ _ _ _ _ h w.if-t-least.false w.place-is w.least-is
-    ] ∙ v.0, (omega arith, (omega arith, omega arith)))
+    let h = c.loop-k-test.true in (
+      elim c.if-t-least.branch [
+        | then-t-least w ↦ next_new _ _ _ _ _ _ _ _ h w.if-t-least.true w.place-is w.least-is
+        | else-t-least w ↦ next_old _ _ _ _ _ _ _ _ h w.if-t-least.false w.place-is w.least-is
+      ] ∙ v.0,
+      (omega arith, (omega arith, omega arith)),
+    )
 
 pub returns : goal.returns
 returns c = sym (step_done _ _ _ _ _ _ c.loop-k-test.false) ∙ c.loop-k.invariant.0

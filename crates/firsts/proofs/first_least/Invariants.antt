@@ -1,11 +1,7 @@
 -- `firsts::first_least` meets its contract: what is left to look at gives what the whole gives. Assumes nothing.
-use borrow.Author.Rules.{rules}
-use mathlib.Core.Path.{◌≡◌, sym, ◌∙◌}
-use mathlib.Core.Logic.{⊎_elim}
+use mathlib.Core.Path.{◌≡◌}
 use Prim.Native.Nat.{◌+◌, ◌-◌, ◌≤◌}
-use native.Mathlib.Omega.{arith}
 use Rattle.firsts.specs.Firsts.{part, first_from, first_of}
-use Rattle.firsts.proofs.Firsts.{next_new, next_old, step_done, no_entry, first_start}
 use Rattle.firsts.proofs.first_least.Given as goal
 
 abbrev pub invariant-loop-k : goal.invariant-loop-k

@@ -1,5 +1,4 @@
 -- `firsts::smaller_of` meets its contract. Assumes nothing.
-use borrow.Author.Rules.{rules}
 use native.Mathlib.Omega.{arith}
 use Rattle.firsts.proofs.Firsts.{keeps, begins, stays, falls}
 use Rattle.firsts.proofs.smaller_of.Goals as goal

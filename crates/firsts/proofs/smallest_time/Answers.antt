@@ -1,10 +1,5 @@
 -- `firsts::smallest_time` meets its contract: the smallest time of the classes passed. Assumes nothing.
-use borrow.Author.Rules.{rules}
-use mathlib.Core.Path.{◌≡◌}
-use Prim.Native.Nat.{◌-◌, ◌≤◌}
 use native.Mathlib.Omega.{arith}
-use Rattle.places.specs.Queue.{classes}
-use Rattle.firsts.specs.Firsts.{smallest_below}
 use Rattle.firsts.proofs.Firsts.{smallest_start, smallest_goes, smallest_done}
 use Rattle.firsts.proofs.smallest_time.Goals as goal
 

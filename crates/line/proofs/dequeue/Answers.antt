@@ -5,7 +5,4 @@ use Rattle.line.proofs.dequeue.Goals as goal
 
 pub returns : goal.returns
 returns c =
-    let t = c in
-    let w = t in
-    let s = w in
-    taken_due _ _ _ s.requires.0 _ s.requires.1.0 (omega (arith, s.requires.1.1)) _ w.due_class-class.ensures.0 _ w.wide.ensures.0 _ _ t.take_out-left.ensures _ _ c.note_first.ensures _ c.entry_of.ensures
+    taken_due _ _ _ c.requires.0 _ c.requires.1.0 (omega (arith, c.requires.1.1)) _ c.due_class-class.ensures.0 _ c.wide.ensures.0 _ _ c.take_out-left.ensures _ _ c.note_first.ensures _ c.entry_of.ensures

@@ -5,10 +5,10 @@ use Rattle.line.proofs.Searches.{class_here, class_lower, class_none}
 use Rattle.line.proofs.due_class.Goals as goal
 
 pub returns-then-firsts-wide : goal.returns-then-firsts-wide
-returns-then-firsts-wide c = let t = c in (class_here _ _ _ _ _ (omega (arith, t.loop-above-test.true)) c.wide.ensures.0 c.if-firsts-wide.true ∙ t.loop-above.invariant.0, omega arith)
+returns-then-firsts-wide c = (class_here _ _ _ _ _ (omega (arith, c.loop-above-test.true)) c.wide.ensures.0 c.if-firsts-wide.true ∙ c.loop-above.invariant.0, omega arith)
 
 pub loop-above-preserved : goal.loop-above-preserved
-loop-above-preserved c = let t = c in (class_lower _ _ _ _ _ (omega (arith, t.loop-above-test.true)) c.wide.ensures.0 c.if-firsts-wide.false ∙ t.loop-above.invariant.0, omega arith)
+loop-above-preserved c = (class_lower _ _ _ _ _ (omega (arith, c.loop-above-test.true)) c.wide.ensures.0 c.if-firsts-wide.false ∙ c.loop-above.invariant.0, omega arith)
 
 pub returns : goal.returns
 returns c = (class_none _ _ _ (omega arith) ∙ c.loop-above.invariant.0, omega arith)

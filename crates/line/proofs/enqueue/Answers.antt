@@ -4,10 +4,10 @@ use Rattle.line.proofs.Noting.{enqueue_not, enqueue_lower, enqueue_stay}
 use Rattle.line.proofs.enqueue.Goals as goal
 
 pub returns-then-not-put : goal.returns-then-not-put
-returns-then-not-put c = let s = c in enqueue_not _ _ _ _ s.requires.0 s.requires.1 _ _ c.put.ensures c.if-not-put.true
+returns-then-not-put c = enqueue_not _ _ _ _ c.requires.0 c.requires.1 _ _ c.put.ensures c.if-not-put.true
 
 pub returns-then-time-firsts : goal.returns-then-time-firsts
-returns-then-time-firsts c = let p = c in let l = p in let s = l in enqueue_lower _ _ _ _ s.requires.0 s.requires.1 _ _ p.put.ensures c.if-not-put.false _ _ _ l.wide-c.ensures.0 refl l.wide-last.ensures.0 c.if-time-firsts.true
+returns-then-time-firsts c = enqueue_lower _ _ _ _ c.requires.0 c.requires.1 _ _ c.put.ensures c.if-not-put.false _ _ _ c.wide-c.ensures.0 refl c.wide-last.ensures.0 c.if-time-firsts.true
 
 pub returns : goal.returns
-returns c = let p = c in let l = p in let s = l in enqueue_stay _ _ _ _ s.requires.0 s.requires.1 _ _ p.put.ensures c.if-not-put.false _ l.wide-c.ensures.0 c.if-time-firsts.false
+returns c = enqueue_stay _ _ _ _ c.requires.0 c.requires.1 _ _ c.put.ensures c.if-not-put.false _ c.wide-c.ensures.0 c.if-time-firsts.false

@@ -4,17 +4,11 @@ use Rattle.line.proofs.settle.Goals as goal
 
 pub returns-then-not-enqueue : goal.returns-then-not-enqueue
 returns-then-not-enqueue c =
-    let e = c in
-    let h = e in
-    let s = h in
-    (settle_full _ _ _ _ _ _ h.in-Released.is s.requires.0.sound _ h.hand_on-handed_on.ensures s.requires.1 _ _ e.enqueue.ensures.0 c.if-not-enqueue.true _ c.refusal_number.ensures, e.enqueue.ensures.1)
+    (settle_full _ _ _ _ _ _ c.in-Released.is c.requires.0.sound _ c.hand_on-handed_on.ensures c.requires.1 _ _ c.enqueue.ensures.0 c.if-not-enqueue.true _ c.refusal_number.ensures, c.enqueue.ensures.1)
 
 pub returns-else-not-enqueue : goal.returns-else-not-enqueue
 returns-else-not-enqueue c =
-    let e = c in
-    let h = e in
-    let s = h in
-    (settle_in _ _ _ _ _ _ h.in-Released.is s.requires.0.sound _ h.hand_on-handed_on.ensures s.requires.1 _ _ e.enqueue.ensures.0 c.if-not-enqueue.false, e.enqueue.ensures.1)
+    (settle_in _ _ _ _ _ _ c.in-Released.is c.requires.0.sound _ c.hand_on-handed_on.ensures c.requires.1 _ _ c.enqueue.ensures.0 c.if-not-enqueue.false, c.enqueue.ensures.1)
 
 pub returns-in-Discarded : goal.returns-in-Discarded
 returns-in-Discarded c = (settle_discarded _ _ _ _ _ _ c.in-Discarded.is _ c.answer_number.ensures, c.requires.0)

@@ -18,7 +18,6 @@ unfolding start_of
 returns-then-not-all_sound c =
     let lists : let a = c.args in lists_fit a.arrivals a.ids a.octets a.start a.answers ≡ true = confirmed c.lists_fit.ensures c.if-not-lists_fit.false in
     let line : let a = c.args in line_fits a.rate.0 a.free.0 ≡ true = confirmed c.line_fits.ensures c.if-not-line_fits.false in
-    let e = c in
     simp (lists, line, refuted c.all_sound.ensures c.if-not-all_sound.true)
 
 pub returns : goal.returns
@@ -26,5 +25,4 @@ unfolding start_of
 returns c =
     let lists : let a = c.args in lists_fit a.arrivals a.ids a.octets a.start a.answers ≡ true = confirmed c.lists_fit.ensures c.if-not-lists_fit.false in
     let line : let a = c.args in line_fits a.rate.0 a.free.0 ≡ true = confirmed c.line_fits.ensures c.if-not-line_fits.false in
-    let e = c in
     simp (lists, line, confirmed c.all_sound.ensures c.if-not-all_sound.false)

@@ -14,6 +14,4 @@ returns-then-place-n c = take_none _ _ _ (omega arith) (omega arith) (omega arit
 
 pub returns : goal.returns
 returns c =
-    let h = c in
-    let t = h in
-    take_done _ _ _ (omega arith) (omega arith) _ _ _ _ _ _ (omega arith) t.close_up-time.ensures h.close_up_handles-handle.ensures c.close_up-charge.ensures
+    take_done _ _ _ (omega arith) (omega arith) _ _ _ _ _ _ (omega arith) c.close_up-time.ensures c.close_up_handles-handle.ensures c.close_up-charge.ensures

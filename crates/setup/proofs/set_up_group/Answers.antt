@@ -12,13 +12,11 @@ returns-then-not-in_range c =
 
 pub returns-then-not-in_range-2 : goal.returns-then-not-in_range-2
 returns-then-not-in_range-2 c =
-    let e = c in
-    let a = e.args in
-    sym (residence_out a.class a.residence.0 (confirmed e.in_range.ensures e.if-not-in_range.false) (refuted c.in_range-2.ensures c.if-not-in_range-2.true))
+    let a = c.args in
+    sym (residence_out a.class a.residence.0 (confirmed c.in_range.ensures c.if-not-in_range.false) (refuted c.in_range-2.ensures c.if-not-in_range-2.true))
 
 pub returns : goal.returns
 unfolding fresh_group
 returns c =
-    let e = c in
-    let a = e.args in
-    sym (group_done a.class a.residence.0 (confirmed e.in_range.ensures e.if-not-in_range.false) (confirmed c.in_range-2.ensures c.if-not-in_range-2.false))
+    let a = c.args in
+    sym (group_done a.class a.residence.0 (confirmed c.in_range.ensures c.if-not-in_range.false) (confirmed c.in_range-2.ensures c.if-not-in_range-2.false))

@@ -18,31 +18,21 @@ returns-then-not-used c =
 
 pub returns-then-not-sound_group : goal.returns-then-not-sound_group
 returns-then-not-sound_group c =
-    let e = c in
-    let a = e.args in
+    let a = c.args in
     sym (group_unsound a.id a.group a.rate.0 a.burst.0 (confirmed c.in_range.ensures c.if-not-in_range.false) c.if-not-used.false (refuted c.sound_group.ensures c.if-not-sound_group.true))
 
 pub returns-then-not-in_range-2 : goal.returns-then-not-in_range-2
 returns-then-not-in_range-2 c =
-    let s = c in
-    let e = s in
-    let a = e.args in
+    let a = c.args in
     sym (rate_out a.id a.group a.rate.0 a.burst.0 (confirmed c.in_range.ensures c.if-not-in_range.false) c.if-not-used.false (confirmed c.sound_group.ensures c.if-not-sound_group.false) (refuted c.in_range-2.ensures c.if-not-in_range-2.true))
 
 pub returns-then-not-in_range-3 : goal.returns-then-not-in_range-3
 returns-then-not-in_range-3 c =
-    let f = c in
-    let s = f in
-    let e = s in
-    let a = e.args in
+    let a = c.args in
     sym (burst_out a.id a.group a.rate.0 a.burst.0 (confirmed c.in_range.ensures c.if-not-in_range.false) c.if-not-used.false (confirmed c.sound_group.ensures c.if-not-sound_group.false) (confirmed c.in_range-2.ensures c.if-not-in_range-2.false) (refuted c.in_range-3.ensures c.if-not-in_range-3.true))
 
 pub returns : goal.returns
 returns c =
-    let b = c in
-    let f = b in
-    let s = f in
-    let e = s in
-    let a = e.args in
+    let a = c.args in
     ap (λ (x : Stream). Done x) c.fresh_stream.ensures
     ∙ sym (stream_done a.id a.group a.rate.0 a.burst.0 (confirmed c.in_range.ensures c.if-not-in_range.false) c.if-not-used.false (confirmed c.sound_group.ensures c.if-not-sound_group.false) (confirmed c.in_range-2.ensures c.if-not-in_range-2.false) (confirmed c.in_range-3.ensures c.if-not-in_range-3.false))

@@ -9,9 +9,8 @@ returns-then-bytes-eq0 c = none_at_all c.args.bytes.now (omega arith)
 
 pub returns-then-not-is_digit : goal.returns-then-not-is_digit
 returns-then-not-is_digit c =
-    let d = c in
-    let l = d.loop-i in
-    no_digit _ _ _ l.invariant (omega arith) (refuted d.is_digit.ensures c.if-not-is_digit.true)
+    let l = c.loop-i in
+    no_digit _ _ _ l.invariant (omega arith) (refuted c.is_digit.ensures c.if-not-is_digit.true)
 
 pub overflow_sub-byte : goal.overflow_sub-byte
 overflow_sub-byte c = omega (arith, digit_range _ (confirmed c.is_digit.ensures c.if-not-is_digit.false))
@@ -21,8 +20,7 @@ with_digit-n-requires c = omega (arith, digit_range _ (confirmed c.is_digit.ensu
 
 pub loop-i-preserved : goal.loop-i-preserved
 loop-i-preserved c =
-    let e = c in
-    let l = e.loop-i in
+    let l = c.loop-i in
     digit_on _ _ _ l.invariant (omega arith) (confirmed c.is_digit.ensures c.if-not-is_digit.false) _ c.with_digit-n.ensures
 
 pub returns : goal.returns

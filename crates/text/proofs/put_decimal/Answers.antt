@@ -11,13 +11,10 @@ returns-then-len-at c =
 
 pub returns-then-len-at-2 : goal.returns-then-len-at-2
 returns-then-len-at-2 c =
-    let k = c in
-    let a = k.args in
-    too_long a.out.now a.at (decimal a.n) (omega (arith, k.digit_count-k.ensures.0, decimal_length a.n))
+    let a = c.args in
+    too_long a.out.now a.at (decimal a.n) (omega (arith, c.digit_count-k.ensures.0, decimal_length a.n))
 
 pub returns : goal.returns
 returns c =
-    let p = c in
-    let k = p in
-    let a = k.args in
-    decimal_fits a.out.now _ a.at k.digit_count-k.result a.n k.digit_count-k.ensures.0 (omega arith) p.put_digits.ensures
+    let a = c.args in
+    decimal_fits a.out.now _ a.at c.digit_count-k.result a.n c.digit_count-k.ensures.0 (omega arith) c.put_digits.ensures

@@ -8,6 +8,4 @@ use Rattle.text.proofs.put_field.Goals as goal
 pub returns : goal.returns
 unfolding puts
 returns c =
-    let d = c in
-    let t = d in
-    d.put_decimal.ensures ∙ and_then (_ ∷ []) (_ ∷ []) _ _ _ _ t.put_text-after.ensures
+    c.put_decimal.ensures ∙ and_then (_ ∷ []) (_ ∷ []) _ _ _ _ c.put_text-after.ensures

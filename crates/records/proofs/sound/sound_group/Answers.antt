@@ -13,51 +13,41 @@ returns-then-not-used c = simp c.if-not-used.true
 pub returns-then-not-in_range : goal.returns-then-not-in_range
 unfolding sound_group
 returns-then-not-in_range c =
-    let e = c in
-    simp (e.if-not-used.false, refuted c.in_range.ensures c.if-not-in_range.true)
+    simp (c.if-not-used.false, refuted c.in_range.ensures c.if-not-in_range.true)
 
 pub returns-then-not-in_range-2 : goal.returns-then-not-in_range-2
 unfolding sound_group
 returns-then-not-in_range-2 c =
-    let f = c in
-    let e = f in
     simp (
-      e.if-not-used.false,
-      confirmed f.in_range.ensures f.if-not-in_range.false,
+      c.if-not-used.false,
+      confirmed c.in_range.ensures c.if-not-in_range.false,
       refuted c.in_range-2.ensures c.if-not-in_range-2.true,
     )
 
 pub returns-then-not-in_range-3 : goal.returns-then-not-in_range-3
 unfolding sound_group
 returns-then-not-in_range-3 c =
-    let h = c in
-    let f = h in
-    let e = f in
     simp (
-      e.if-not-used.false,
-      confirmed f.in_range.ensures f.if-not-in_range.false,
-      confirmed h.in_range-2.ensures h.if-not-in_range-2.false,
+      c.if-not-used.false,
+      confirmed c.in_range.ensures c.if-not-in_range.false,
+      confirmed c.in_range-2.ensures c.if-not-in_range-2.false,
       refuted c.in_range-3.ensures c.if-not-in_range-3.true,
     )
 
 pub overflow_add-result : goal.overflow_add-result
 overflow_add-result c =
-    let h = c in
     omega (
       arith,
-      at_most Residence h.args.group.residence.0 (confirmed h.in_range-2.ensures h.if-not-in_range-2.false),
-      at_most Arrival h.args.group.last.0 (confirmed c.in_range-3.ensures c.if-not-in_range-3.false),
+      at_most Residence c.args.group.residence.0 (confirmed c.in_range-2.ensures c.if-not-in_range-2.false),
+      at_most Arrival c.args.group.last.0 (confirmed c.in_range-3.ensures c.if-not-in_range-3.false),
     )
 
 pub returns : goal.returns
 unfolding sound_group
 returns c =
-    let h = c in
-    let f = h in
-    let e = f in
     simp (
-      e.if-not-used.false,
-      confirmed f.in_range.ensures f.if-not-in_range.false,
-      confirmed h.in_range-2.ensures h.if-not-in_range-2.false,
+      c.if-not-used.false,
+      confirmed c.in_range.ensures c.if-not-in_range.false,
+      confirmed c.in_range-2.ensures c.if-not-in_range-2.false,
       confirmed c.in_range-3.ensures c.if-not-in_range-3.false,
     )

@@ -14,8 +14,7 @@ overflow_sub-result c =
     let not_below : lt_z (to_z w64 (of_z w64 c.args.m.ticks)) (pos 0) ≡ false = rw (to_z-of_z ticks_fit) (is_not_lt c.args.m.ticks (pos 0) (omega (arith, c.requires.part_lt_rate.1))) in
     let ticks : ℕ = nat_abs (to_z w64 (of_z w64 c.args.m.ticks)) in
     let whole : ticks ≡ or_zero c.args.m.ticks = clip_is c.args.m.ticks ticks_fit not_below in
-    let s = c in
-    omega (arith, whole, within s.args.rate.0 s.args.m s.requires.part_lt_rate.1 s.args.t.0 (omega arith) s.requires.m_bound)
+    omega (arith, whole, within c.args.rate.0 c.args.m c.requires.part_lt_rate.1 c.args.t.0 (omega arith) c.requires.m_bound)
 
 pub returns-then-part-eq0 : goal.returns-then-part-eq0
 unfolding span_time
@@ -24,10 +23,9 @@ returns-then-part-eq0 c =
     let not_below : lt_z (to_z w64 (of_z w64 c.args.m.ticks)) (pos 0) ≡ false = rw (to_z-of_z ticks_fit) (is_not_lt c.args.m.ticks (pos 0) (omega (arith, c.requires.part_lt_rate.1))) in
     let ticks : ℕ = nat_abs (to_z w64 (of_z w64 c.args.m.ticks)) in
     let whole : ticks ≡ or_zero c.args.m.ticks = clip_is c.args.m.ticks ticks_fit not_below in
-    let s = c in
     let n = ticks in
     record {
-      exact = reach s.args.rate.0 s.args.m s.requires.part_lt_rate.1 s.args.t.0 (s.args.t.0 - n) 0 0 (omega (arith, whole, within s.args.rate.0 s.args.m s.requires.part_lt_rate.1 s.args.t.0 (omega arith) s.requires.m_bound)) (omega arith);
+      exact = reach c.args.rate.0 c.args.m c.requires.part_lt_rate.1 c.args.t.0 (c.args.t.0 - n) 0 0 (omega (arith, whole, within c.args.rate.0 c.args.m c.requires.part_lt_rate.1 c.args.t.0 (omega arith) c.requires.m_bound)) (omega arith);
       over = omega arith;
       most = omega arith;
     }
@@ -38,8 +36,7 @@ overflow_sub-result-2 c =
     let not_below : lt_z (to_z w64 (of_z w64 c.args.m.ticks)) (pos 0) ≡ false = rw (to_z-of_z ticks_fit) (is_not_lt c.args.m.ticks (pos 0) (omega (arith, c.requires.part_lt_rate.1))) in
     let ticks : ℕ = nat_abs (to_z w64 (of_z w64 c.args.m.ticks)) in
     let whole : ticks ≡ or_zero c.args.m.ticks = clip_is c.args.m.ticks ticks_fit not_below in
-    let s = c in
-    omega (arith, whole, within s.args.rate.0 s.args.m s.requires.part_lt_rate.1 s.args.t.0 (omega arith) s.requires.m_bound)
+    omega (arith, whole, within c.args.rate.0 c.args.m c.requires.part_lt_rate.1 c.args.t.0 (omega arith) c.requires.m_bound)
 
 pub overflow_sub-result-3 : goal.overflow_sub-result-3
 overflow_sub-result-3 c =
@@ -47,8 +44,7 @@ overflow_sub-result-3 c =
     let not_below : lt_z (to_z w64 (of_z w64 c.args.m.ticks)) (pos 0) ≡ false = rw (to_z-of_z ticks_fit) (is_not_lt c.args.m.ticks (pos 0) (omega (arith, c.requires.part_lt_rate.1))) in
     let ticks : ℕ = nat_abs (to_z w64 (of_z w64 c.args.m.ticks)) in
     let whole : ticks ≡ or_zero c.args.m.ticks = clip_is c.args.m.ticks ticks_fit not_below in
-    let s = c in
-    omega (arith, whole, within_more s.args.rate.0 s.args.m s.requires.part_lt_rate.1 s.args.t.0 (omega arith) s.requires.m_bound)
+    omega (arith, whole, within_more c.args.rate.0 c.args.m c.requires.part_lt_rate.1 c.args.t.0 (omega arith) c.requires.m_bound)
 
 pub returns : goal.returns
 unfolding span_time
@@ -57,10 +53,9 @@ returns c =
     let not_below : lt_z (to_z w64 (of_z w64 c.args.m.ticks)) (pos 0) ≡ false = rw (to_z-of_z ticks_fit) (is_not_lt c.args.m.ticks (pos 0) (omega (arith, c.requires.part_lt_rate.1))) in
     let ticks : ℕ = nat_abs (to_z w64 (of_z w64 c.args.m.ticks)) in
     let whole : ticks ≡ or_zero c.args.m.ticks = clip_is c.args.m.ticks ticks_fit not_below in
-    let s = c in
     let n = ticks in
     record {
-      exact = reach s.args.rate.0 s.args.m s.requires.part_lt_rate.1 s.args.t.0 (s.args.t.0 - n - 1) (s.args.rate.0 - s.args.m.part) 1 (omega (arith, whole, within_more s.args.rate.0 s.args.m s.requires.part_lt_rate.1 s.args.t.0 (omega arith) s.requires.m_bound)) (omega arith);
+      exact = reach c.args.rate.0 c.args.m c.requires.part_lt_rate.1 c.args.t.0 (c.args.t.0 - n - 1) (c.args.rate.0 - c.args.m.part) 1 (omega (arith, whole, within_more c.args.rate.0 c.args.m c.requires.part_lt_rate.1 c.args.t.0 (omega arith) c.requires.m_bound)) (omega arith);
       over = omega arith;
       most = omega arith;
     }

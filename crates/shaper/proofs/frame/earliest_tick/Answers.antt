@@ -21,8 +21,7 @@ charged_to-requires c =
 pub returns-in-Bucket : goal.returns-in-Bucket
 unfolding earliest S
 returns-in-Bucket c =
-    let k = c in
-    let a = k.args in
+    let a = c.args in
     c.first_tick.ensures a.rate.0 c.charged_to.ensures.over
     ∙ ap (λ (z : ℤ). or_zero (rounded_up a.rate.0 z)) c.charged_to.ensures.exact
-    ∙ sym (ap (λ (x : Regulator). earliest a.rate.0 x a.bits.0) k.in-Bucket.is)
+    ∙ sym (ap (λ (x : Regulator). earliest a.rate.0 x a.bits.0) c.in-Bucket.is)

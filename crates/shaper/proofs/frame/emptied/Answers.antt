@@ -15,27 +15,22 @@ unfolding S F
 returns-then-at-first_tick c =
     let is_full : let a = c.args in exactly a.rate.0 c.charged_to-full.result ≡ F (exactly a.rate.0 a.empty) a.burst.0 = c.charged_to-full.ensures.exact in
     let first : let a = c.args in c.first_tick.result.0 ≡ or_zero (rounded_up a.rate.0 (F (exactly a.rate.0 a.empty) a.burst.0)) = let r = c.args.rate.0 in c.first_tick.ensures r c.charged_to-full.ensures.over ∙ ap (λ (z : ℤ). or_zero (rounded_up r z)) is_full in
-    let f = c in
-    let s = f in
-    let a = s.args in
-    let start = f.charged_to-start in
+    let a = c.args in
+    let start = c.charged_to-start in
     moment_of_law a.rate.0 start.result _ start.ensures.over
-    (start.ensures.exact ∙ sym (before_full a.rate.0 (exactly a.rate.0 a.empty) a.burst.0 a.bits.0 a.t.0 s.requires.0.full (omega arith) (omega (arith, first))))
+    (start.ensures.exact ∙ sym (before_full a.rate.0 (exactly a.rate.0 a.empty) a.burst.0 a.bits.0 a.t.0 c.requires.0.full (omega arith) (omega (arith, first))))
 
 pub returns : goal.returns
 unfolding S F
 returns c =
     let is_full : let a = c.args in exactly a.rate.0 c.charged_to-full.result ≡ F (exactly a.rate.0 a.empty) a.burst.0 = c.charged_to-full.ensures.exact in
-    let u = c in
-    let k = u in
-    let s = k in
-    let a = s.args in
+    let a = c.args in
     let r = a.rate.0 in
-    let start = k.charged_to-start in
-    let n = span_time r u.until.result in
+    let start = c.charged_to-start in
+    let n = span_time r c.until.result in
     let e = exactly r a.empty in
     moment_of_law r c.later.result _ c.later.ensures.over
-    (c.later.ensures.exact ∙ ap (λ (z : ℤ). z +ℤ pos n) start.ensures.exact ∙ sym (from_full r e a.burst.0 a.bits.0 a.t.0 s.requires.0.full n (rw is_full at u.until.ensures.exact)))
+    (c.later.ensures.exact ∙ ap (λ (z : ℤ). z +ℤ pos n) start.ensures.exact ∙ sym (from_full r e a.burst.0 a.bits.0 a.t.0 c.requires.0.full n (rw is_full at c.until.ensures.exact)))
 
 -- F's whole ticks are not negative, since F is not
 pub until-requires-clause-part_lt_rate : goal.until-requires-clause-part_lt_rate

@@ -8,22 +8,16 @@ use Rattle.shaper.proofs.frame.judge.Goals as goal
 pub process_frame-requires : goal.process_frame-requires
 unfolding Said
 process_frame-requires c =
-    let m = c in
-    let t = m in
-    let a = t.args in
-    let w = subst (Said a.stream a.group a.octets a.arrival.0) (sym t.test_frame.ensures ∙ m.in-Charged.is) (said a.stream a.group a.octets a.arrival.0) in
+    let a = c.args in
+    let w = subst (Said a.stream a.group a.octets a.arrival.0) (sym c.test_frame.ensures ∙ c.in-Charged.is) (said a.stream a.group a.octets a.arrival.0) in
     (w.0.records, ap (λ (L : ℕ). above_burst a.stream.regulator L) w.1 ∙ w.0.burst, w.0.arrival)
 
 pub returns-in-Refused : goal.returns-in-Refused
 returns-in-Refused c =
-    let m = c in
-    let t = m in
-    let a = t.args in
-    c.refused.ensures ∙ sym (test_refuses a.stream a.group a.octets a.arrival.0 (sym t.test_frame.ensures ∙ m.in-Refused.is))
+    let a = c.args in
+    c.refused.ensures ∙ sym (test_refuses a.stream a.group a.octets a.arrival.0 (sym c.test_frame.ensures ∙ c.in-Refused.is))
 
 pub returns-in-Charged : goal.returns-in-Charged
 returns-in-Charged c =
-    let m = c in
-    let t = m in
-    let a = t.args in
-    c.process_frame.ensures ∙ sym (test_charges a.stream a.group a.octets a.arrival.0 (sym t.test_frame.ensures ∙ m.in-Charged.is))
+    let a = c.args in
+    c.process_frame.ensures ∙ sym (test_charges a.stream a.group a.octets a.arrival.0 (sym c.test_frame.ensures ∙ c.in-Charged.is))

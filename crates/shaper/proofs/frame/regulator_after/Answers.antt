@@ -22,7 +22,6 @@ emptied-requires c =
 pub returns-in-Bucket : goal.returns-in-Bucket
 unfolding after_release
 returns-in-Bucket c =
-    let k = c in
-    let a = k.args in
-    ap (λ (m : Moment). Bucket k.in-Bucket.burst m) c.emptied.ensures
-    ∙ sym (ap (λ (x : Regulator). after_release a.rate.0 x a.bits.0 a.t.0) k.in-Bucket.is)
+    let a = c.args in
+    ap (λ (m : Moment). Bucket c.in-Bucket.burst m) c.emptied.ensures
+    ∙ sym (ap (λ (x : Regulator). after_release a.rate.0 x a.bits.0 a.t.0) c.in-Bucket.is)
