@@ -1,7 +1,7 @@
 -- The examples of sessions, proved. Assumes nothing.
-use mathlib.Core.Path.{◌≡◌, refl, ap, sym, ◌∙◌}
+use mathlib.Core.Path.{refl, sym, ◌∙◌}
 use mathlib.Core.List.{[], ◌∷◌}
-use Prim.Native.Nat.{ℕ, ◌+◌, ◌<◌}
+use Prim.Native.Nat.{◌+◌, ◌<◌}
 use native.Mathlib.Omega.{arith}
 use lib.Dec.{lit≤}
 use lib.ListN.{length}
@@ -25,7 +25,6 @@ use Rattle.listing_text.specs.Lines.{line_of, column}
 use Rattle.listing_part.specs.Records.{call_of, record_line}
 use Rattle.listing_part.specs.Parts.{onto, may_go_on, going_on, stops_at, part_for, part_of}
 use Rattle.intake.specs.Sessions.{bytes_of, readings, at_its_end, after_more, stopped, written, onward, session}
-use Rattle.intake.specs.declared.Next.TheVariants.{Ends}
 use Rattle.intake.proofs.Promises.{no_end}
 use Rattle.listing_turn.specs.Turns.{start, unended, at_edge, next_of, end_if, turn_of, list_turn}
 use Rattle.listing_turn.specs.Promises.{listing_session}

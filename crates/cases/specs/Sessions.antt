@@ -1,11 +1,11 @@
 -- Readings at which the premises of the promises of `listing_turn`, `replay_turn` and `replay_account` hold: document 01's example in three readings, the second of which only would have to wait, and one that fails.
 -- Each field of the record is a premise at these values, or what comes of it. Turns, rooms and counts are plain numbers.
-use Rattle.std.specs.Prelude.{ℕ, ◌+◌, ◌≤◌, ◌<◌, ◌≡◌, List, [], ◌∷◌, length, drop}
+use Rattle.std.specs.Prelude.{◌+◌, ◌≤◌, ◌<◌, ◌≡◌, [], ◌∷◌, length, drop}
 use Rattle.quantity.specs.Kinds.{ticks}
 use Rattle.text.specs.Numeral.{most}
 use Rattle.tablefile.specs.BigEndian.{AreBytes}
 use Rattle.reader.specs.Figures.{example_file}
-use Rattle.intake.specs.Sessions.{Input, more, ended, failed, bytes_of, readings, EndsWell, HasEnded}
+use Rattle.intake.specs.Sessions.{Input, more, ended, failed, bytes_of, readings, EndsWell}
 use Rattle.intake.specs.declared.Next.TheVariants.{Fails}
 use Rattle.listing_text.specs.Places.{line_room, end_room, most_lines}
 use Rattle.listing_turn.specs.Promises.{listing_session}
