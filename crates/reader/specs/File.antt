@@ -36,7 +36,7 @@ unfoldable pub answers : ℕ → List ℕ → ℕ → Contents
 answers zero bytes place = record { records = []; ended = nothing_left; place = place }
 answers (suc n) bytes place = onwards (read_at bytes place) place (answers n bytes)
 
--- what stands from a place on; the law `one-at-a-time` is all there is to know of it
+-- what stands from a place on; the law `one_at_a_time` is all there is to know of it
 unfoldable pub contents_from : List ℕ → ℕ → Contents
 contents_from bytes place = answers (suc (length bytes)) bytes place
 

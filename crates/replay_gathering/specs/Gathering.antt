@@ -118,7 +118,7 @@ unfoldable pub gather_for : ℕ → List ℕ → State → Outcome
 gather_for zero bytes s = ended NothingLeft s
 gather_for (suc more) bytes s = onward s (task_at bytes s) (gather_for more bytes)
 
--- on from the state s: no more records than bytes; the law `one-record-at-a-time` is all there is to know of it
+-- on from the state s: no more records than bytes; the law `one_record_at_a_time` is all there is to know of it
 unfoldable pub gather_from : List ℕ → State → Outcome
 gather_from bytes s = gather_for (suc (length bytes)) bytes s
 
