@@ -1,4 +1,5 @@
-// What C calls, over numbers and over records that C can name: include/aldurretx.h says how they look from there.
+// What C calls, over numbers and over records that C can name: include/aldurretx.h says how they look from there, and
+// `firmware_c` gives it to C under these names.
 // Ids, classes and octets come as wide numbers, and what does not fit its field is refused as out of range, not wrapped.
 #![tactic(auto)]
 
@@ -236,13 +237,7 @@ fn tell_frame(
 }
 
 // Sets up the group `id` in its lent record.
-#[unsafe(no_mangle)]
-pub extern "C" fn aldurretx_set_up_group(
-    id: u64,
-    group: &mut GroupRecord,
-    class: u64,
-    residence: u64,
-) -> u8
+pub fn aldurretx_set_up_group(id: u64, group: &mut GroupRecord, class: u64, residence: u64) -> u8
     ensures { record { number = result; group = group.new } ≡ group_told (group_placed id (group_of group.old) class residence) }
 {
     let told = tell_group(id, *group, class, residence);
@@ -251,8 +246,7 @@ pub extern "C" fn aldurretx_set_up_group(
 }
 
 // Sets up the stream `id` in its lent record, in the group `in_group`, whose record is lent too.
-#[unsafe(no_mangle)]
-pub extern "C" fn aldurretx_set_up_stream(
+pub fn aldurretx_set_up_stream(
     id: u64,
     stream: &mut StreamRecord,
     in_group: u64,
@@ -269,8 +263,7 @@ pub extern "C" fn aldurretx_set_up_stream(
 }
 
 // `receive` on the records that C lends: the answer's number back, T behind `time`.
-#[unsafe(no_mangle)]
-pub extern "C" fn aldurretx_receive(
+pub fn aldurretx_receive(
     id: u64,
     group: &mut GroupRecord,
     streams: &mut [StreamRecord],
