@@ -5,7 +5,7 @@
 // what it writes, is its own rooms'.
 #![tactic(auto)]
 
-ghost use Rattle.std.specs.Prelude.{◌≡◌, [], ◌∷◌, ◌≤◌, ◌<◌, ◌^◌, IfOk, length, take, drop};
+ghost use Rattle.std.specs.Prelude.{◌≡◌, [], ◌∷◌, ◌≤◌, ◌<◌, ◌^◌, IfOk, length, take, drop, replicate};
 ghost use Rattle.std.specs.Io.KnownBytes.{Appends};
 ghost use Rattle.text.specs.Decimal.{decimal};
 ghost use Rattle.text.specs.Puts.{joined, puts};
@@ -80,14 +80,16 @@ pub struct Failure {
 
 // Zeros, as many as a line has room in.
 pub fn buffer() -> [u8; LINE_BYTES]
-    ensures { 4096 ≡ length result }
+    ensures zeros { result ≡ replicate 4096 0 }
+    ensures long { 4096 ≡ length result }
 {
     [0; LINE_BYTES]
 }
 
 // Zeros, for a loop that moves much.
 pub fn large_buffer() -> [u8; LARGE_BYTES]
-    ensures { 65536 ≡ length result }
+    ensures zeros { result ≡ replicate 65536 0 }
+    ensures long { 65536 ≡ length result }
 {
     [0; LARGE_BYTES]
 }
@@ -113,8 +115,8 @@ fn number_of_kind(kind: ErrorKind) -> i32
     ensures { result ≡ kind_number kind }
 {
     match kind {
-        ErrorKind::Interrupted => 4,
-        ErrorKind::WouldBlock => 11,
+        ErrorKind::Interrupted => INTERRUPTED as i32,
+        ErrorKind::WouldBlock => NOT_READY as i32,
         _ => 0,
     }
 }
