@@ -16,41 +16,42 @@ use Rattle.records.specs.Numbers.{is_set_up}
 use Rattle.records.specs.declared.Group.{Group}
 use Rattle.records.specs.declared.Stream.{Stream}
 use Rattle.admission.specs.Tests.{above_burst, tested}
-use Rattle.admission.specs.declared.Tested.{Tested}
-use Rattle.admission.specs.declared.Tested.TheVariants.{Refused, Charged}
+use Rattle.std.proofs.Common.{Result, Ok, Err}
+use Rattle.quantity.specs.declared.Bits.{Bits}
+use Rattle.quantity.specs.declared.Refusal.{Refusal}
 
 -- ---- the tests in their order
 module _ (s : Stream) (g : Group) (n A : ℕ) where
-  pub test_10 : is_set_up s.regulator ≡ false → tested s g n A ≡ Refused NoStream
+  pub test_10 : is_set_up s.regulator ≡ false → tested s g n A ≡ Err NoStream
   unfolding tested
   test_10 e = simp e
 
   module _ (u : is_set_up s.regulator ≡ true) where
-    pub test_9 : sound s g ≡ false → tested s g n A ≡ Refused Unsound
+    pub test_9 : sound s g ≡ false → tested s g n A ≡ Err Unsound
     unfolding tested
     test_9 e = simp (u, e)
 
     module _ (k : sound s g ≡ true) where
-      pub test_11 : in_range Octets n ≡ false → tested s g n A ≡ Refused LengthRange
+      pub test_11 : in_range Octets n ≡ false → tested s g n A ≡ Err LengthRange
       unfolding tested
       test_11 e = simp (u, k, e)
 
       module _ (o : in_range Octets n ≡ true) where
-        pub test_12 : above_burst s.regulator (charged n) ≡ true → tested s g n A ≡ Refused AboveBurst
+        pub test_12 : above_burst s.regulator (charged n) ≡ true → tested s g n A ≡ Err AboveBurst
         unfolding tested
         test_12 e = simp (u, k, o, e)
 
         module _ (b : above_burst s.regulator (charged n) ≡ false) where
-          pub test_13 : in_range Arrival A ≡ false → tested s g n A ≡ Refused TooLate
+          pub test_13 : in_range Arrival A ≡ false → tested s g n A ≡ Err TooLate
           unfolding tested
           test_13 e = simp (u, k, o, b, e)
 
           module _ (a : in_range Arrival A ≡ true) where
-            pub test_14 : A < g.last.0 → tested s g n A ≡ Refused BeforeLast
+            pub test_14 : A < g.last.0 → tested s g n A ≡ Err BeforeLast
             unfolding tested
             test_14 h = simp (u, k, o, b, a, lt-ltb _ _ h)
 
-            pub none_refuses : g.last.0 ≤ A → tested s g n A ≡ Charged (bits (charged n))
+            pub none_refuses : g.last.0 ≤ A → tested s g n A ≡ Ok (bits (charged n))
             unfolding tested
             none_refuses h = simp (u, k, o, b, a, le-ltb _ _ h)
 
@@ -64,15 +65,15 @@ pub record Passes (s : Stream) (g : Group) (n A : ℕ) : Type 0 where
   pub order : g.last.0 ≤ A
 
 -- what the tests say: a refusal, as unsound only where the records are; or the frame passes them all, and L is its charge
-unfoldable pub Said : Stream → Group → ℕ → ℕ → Tested → Type 0
-Said s g n A (Refused why) = number_of why ≡ number_of Unsound → (is_set_up s.regulator ≡ true) × (sound s g ≡ false)
-Said s g n A (Charged L) = Passes s g n A × (L.0 ≡ charged n)
+unfoldable pub Said : Stream → Group → ℕ → ℕ → Result Bits Refusal → Type 0
+Said s g n A (Err why) = number_of why ≡ number_of Unsound → (is_set_up s.regulator ≡ true) × (sound s g ≡ false)
+Said s g n A (Ok L) = Passes s g n A × (L.0 ≡ charged n)
 
 pub said : (s : Stream) (g : Group) (n A : ℕ) → Said s g n A (tested s g n A)
 unfolding Said
 said s g n A = at_10 (is_set_up s.regulator) refl
   where
-    To : Tested → Type 0
+    To : Result Bits Refusal → Type 0
     To t = Said s g n A t
 
     at_14 : (t : Bool) → ltb A g.last.0 ≡ t → is_set_up s.regulator ≡ true → sound s g ≡ true → in_range Octets n ≡ true → above_burst s.regulator (charged n) ≡ false → in_range Arrival A ≡ true → To (tested s g n A)

@@ -1,6 +1,6 @@
 -- Document 01, 'Numbers returned': a frame's refusals in their order, 10, 9, 11, 12, 13, 14.
 -- n is the frame's octets, A its arrival, L its charged bits.
-use Rattle.std.specs.Prelude.{ℕ, Bool, false, not, cond, ltb}
+use Rattle.std.specs.Prelude.{ℕ, Bool, false, not, cond, ltb, Ok, Err}
 use Rattle.quantity.specs.Kinds.{bits}
 use Rattle.quantity.specs.Charge.{charged}
 use Rattle.quantity.specs.Ranges.{in_range}
@@ -12,8 +12,9 @@ use Rattle.records.specs.declared.Group.{Group}
 use Rattle.records.specs.declared.Stream.{Stream}
 use Rattle.records.specs.declared.Regulator.{Regulator}
 use Rattle.records.specs.declared.Regulator.TheVariants.{Unset, Bucket}
-use Rattle.admission.specs.declared.Tested.{Tested}
-use Rattle.admission.specs.declared.Tested.TheVariants.{Refused, Charged}
+use Rattle.std.specs.declared.result.Result.{Result}
+use Rattle.quantity.specs.declared.Bits.{Bits}
+use Rattle.quantity.specs.declared.Refusal.{Refusal}
 
 -- the charged bits are above the burst
 unfoldable pub above_burst : Regulator → ℕ → Bool
@@ -21,12 +22,12 @@ above_burst Unset L = false
 above_burst (Bucket b e) L = ltb b.0 L
 
 -- a frame of n octets arriving at A: the first refusal that applies, or its charged bits
-unfoldable pub tested : Stream → Group → ℕ → ℕ → Tested
+unfoldable pub tested : Stream → Group → ℕ → ℕ → Result Bits Refusal
 tested s g n A =
-    cond (not (is_set_up s.regulator)) (Refused NoStream)
-    (cond (not (sound s g)) (Refused Unsound)
-    (cond (not (in_range Octets n)) (Refused LengthRange)
-    (cond (above_burst s.regulator (charged n)) (Refused AboveBurst)
-    (cond (not (in_range Arrival A)) (Refused TooLate)
-    (cond (ltb A g.last.0) (Refused BeforeLast)
-    (Charged (bits (charged n))))))))
+    cond (not (is_set_up s.regulator)) (Err NoStream)
+    (cond (not (sound s g)) (Err Unsound)
+    (cond (not (in_range Octets n)) (Err LengthRange)
+    (cond (above_burst s.regulator (charged n)) (Err AboveBurst)
+    (cond (not (in_range Arrival A)) (Err TooLate)
+    (cond (ltb A g.last.0) (Err BeforeLast)
+    (Ok (bits (charged n))))))))

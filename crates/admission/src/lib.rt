@@ -14,13 +14,6 @@ use quantity::{
 };
 use records::{Group, Moment, Regulator, Stream, is_set_up, sound_group};
 
-// What the tests make of a frame: a refusal, or its charged bits.
-#[derive(Clone, Copy, Drop)]
-pub enum Tested {
-    Refused(Refusal),
-    Charged(Bits),
-}
-
 // ---- what is sound
 
 // E ≤ G: whatever the rate is, a remainder is less than a tick.
@@ -104,31 +97,36 @@ fn above_burst(regulator: Regulator, bits: Bits) -> bool
     }
 }
 
-// Tests a frame of so many octets against its stream's and its group's record.
-pub fn test_frame(stream: Stream, group: Group, octets: u16, arrival: Ticks) -> Tested
+// Tests a frame of so many octets against its stream's and its group's record: its charged bits, if nothing refuses it.
+pub fn test_frame(
+    stream: Stream,
+    group: Group,
+    octets: u16,
+    arrival: Ticks,
+) -> Result<Bits, Refusal>
     ensures { result ≡ tested stream group octets arrival.0 }
 {
     let at = arrival.0;
     let last = group.last.0;
     let regulator = stream.regulator;
     if !is_set_up(regulator) {
-        return Tested::Refused(Refusal::NoStream);
+        return Err(Refusal::NoStream);
     }
     if !is_sound(stream, group) {
-        return Tested::Refused(Refusal::Unsound);
+        return Err(Refusal::Unsound);
     }
     if !in_range(Item::Octets, octets as u64) {
-        return Tested::Refused(Refusal::LengthRange);
+        return Err(Refusal::LengthRange);
     }
     let bits = charge(octets, ORDINARY_OVERHEAD);
     if above_burst(regulator, bits) {
-        return Tested::Refused(Refusal::AboveBurst);
+        return Err(Refusal::AboveBurst);
     }
     if !in_range(Item::Arrival, at) {
-        return Tested::Refused(Refusal::TooLate);
+        return Err(Refusal::TooLate);
     }
     if at < last {
-        return Tested::Refused(Refusal::BeforeLast);
+        return Err(Refusal::BeforeLast);
     }
-    Tested::Charged(bits)
+    Ok(bits)
 }

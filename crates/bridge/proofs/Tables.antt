@@ -24,11 +24,10 @@ use Rattle.bridge.specs.Tables.{no_group, no_stream, group_at, stream_at, with_g
 use Rattle.calls.specs.Calls.{group_placed, stream_placed, judged_at}
 use Rattle.bridge.specs.Calls.{group_stored, group_called, stream_stored, stream_called, frame_stored, frame_called}
 use Rattle.bridge.specs.declared.Bridge.{Bridge}
-use Rattle.calls.specs.declared.PlacedGroup.{PlacedGroup}
-use Rattle.calls.specs.declared.PlacedStream.{PlacedStream}
-use Rattle.bridge.specs.declared.BridgeSetUp.{BridgeSetUp}
-use Rattle.bridge.specs.declared.Framed.{Framed}
-use Rattle.calls.specs.declared.SetUp.TheVariants.{Refused}
+use Rattle.calls.specs.declared.Placed.{Placed}
+use Rattle.bridge.specs.Calls.{BridgeSetUp}
+use Rattle.bridge.specs.Calls.{Framed}
+use Rattle.std.proofs.Common.{Err}
 
 -- ---- a record that is stored where it stood changes nothing
 pub same_group : (b : Bridge) (i : ℕ) → with_group b i (group_at b i) ≡ b
@@ -41,10 +40,10 @@ same_stream b i = ap (λ ss. record { groups = b.groups; streams = ss }) (set-ge
 
 -- ---- the returns of the calls on the tables; p and q are the places that the code found
 module _ (b : Bridge) (i c M : ℕ) where
-  group_at_place : (p : ℕ) → PlacedGroup → BridgeSetUp
-  group_at_place p x = record { answer = x.answer; bridge = record { groups = set b.groups p x.group; streams = b.streams } }
+  group_at_place : (p : ℕ) → Placed Group → BridgeSetUp
+  group_at_place p x = record { answer = x.answer; bridge = record { groups = set b.groups p x.after; streams = b.streams } }
 
-  pub group_call : (p : ℕ) → p ≡ place_of GroupId i → (x : PlacedGroup) → x ≡ group_placed i (get_or b.groups p no_group) c M → record { answer = x.answer; bridge = record { groups = set b.groups p x.group; streams = b.streams } } ≡ group_called b i c M
+  pub group_call : (p : ℕ) → p ≡ place_of GroupId i → (x : Placed Group) → x ≡ group_placed i (get_or b.groups p no_group) c M → record { answer = x.answer; bridge = record { groups = set b.groups p x.after; streams = b.streams } } ≡ group_called b i c M
   unfolding group_called group_stored with_group group_at group_at_place
   group_call p e x y = ap (group_at_place p) y ∙ go (in_range GroupId i) refl
     where
@@ -52,19 +51,19 @@ module _ (b : Bridge) (i c M : ℕ) where
       go true h = ap (λ (n : ℕ). group_at_place n (group_placed i (get_or b.groups n no_group) c M)) (e ∙ place_in GroupId i h)
       go false h =
           ap (group_at_place p) (group_id_out i (get_or b.groups p no_group) c M h)
-          ∙ ap (λ gs. record { answer = Refused IdRange; bridge = record { groups = gs; streams = b.streams } }) (set-get_or b.groups p no_group ∙ sym (set-get_or b.groups i no_group))
+          ∙ ap (λ gs. record { answer = Err IdRange; bridge = record { groups = gs; streams = b.streams } }) (set-get_or b.groups p no_group ∙ sym (set-get_or b.groups i no_group))
           ∙ sym (ap (group_at_place i) (group_id_out i (get_or b.groups i no_group) c M h))
 
 module _ (b : Bridge) (i k r u : ℕ) where
-  stream_at_place : (p : ℕ) → PlacedStream → BridgeSetUp
-  stream_at_place p x = record { answer = x.answer; bridge = record { groups = b.groups; streams = set b.streams p x.stream } }
+  stream_at_place : (p : ℕ) → Placed Stream → BridgeSetUp
+  stream_at_place p x = record { answer = x.answer; bridge = record { groups = b.groups; streams = set b.streams p x.after } }
 
   -- the group that is looked at for an id out of range does not matter
   any_group : (s : Stream) (g h : Group) → in_range GroupId k ≡ false → stream_placed i s k g r u ≡ stream_placed i s k h r u
   unfolding stream_placed
   any_group s g h e = simp (group_out k g r u e, group_out k h r u e)
 
-  pub stream_call : (p q : ℕ) → p ≡ place_of StreamId i → q ≡ place_of GroupId k → (x : PlacedStream) → x ≡ stream_placed i (get_or b.streams p no_stream) k (get_or b.groups q no_group) r u → record { answer = x.answer; bridge = record { groups = b.groups; streams = set b.streams p x.stream } } ≡ stream_called b i k r u
+  pub stream_call : (p q : ℕ) → p ≡ place_of StreamId i → q ≡ place_of GroupId k → (x : Placed Stream) → x ≡ stream_placed i (get_or b.streams p no_stream) k (get_or b.groups q no_group) r u → record { answer = x.answer; bridge = record { groups = b.groups; streams = set b.streams p x.after } } ≡ stream_called b i k r u
   unfolding stream_called stream_stored with_stream stream_at group_at stream_at_place
   stream_call p q e f x y = ap (stream_at_place p) (y ∙ home (in_range GroupId k) refl) ∙ go (in_range StreamId i) refl
     where
@@ -76,7 +75,7 @@ module _ (b : Bridge) (i k r u : ℕ) where
       go true h = ap (λ (n : ℕ). stream_at_place n (stream_placed i (get_or b.streams n no_stream) k (get_or b.groups k no_group) r u)) (e ∙ place_in StreamId i h)
       go false h =
           ap (stream_at_place p) (stream_id_out i (get_or b.streams p no_stream) k (get_or b.groups k no_group) r u h)
-          ∙ ap (λ ss. record { answer = Refused IdRange; bridge = record { groups = b.groups; streams = ss } }) (set-get_or b.streams p no_stream ∙ sym (set-get_or b.streams i no_stream))
+          ∙ ap (λ ss. record { answer = Err IdRange; bridge = record { groups = b.groups; streams = ss } }) (set-get_or b.streams p no_stream ∙ sym (set-get_or b.streams i no_stream))
           ∙ sym (ap (stream_at_place i) (stream_id_out i (get_or b.streams i no_stream) k (get_or b.groups k no_group) r u h))
 
 -- a stream whose group is out of range is refused, whatever group's record is looked at

@@ -22,12 +22,12 @@ use Rattle.shaper.proofs.Judging.{Verdict, verdict, not_set_up}
 use Rattle.admission.proofs.Tests.{Passes}
 use Rattle.setup.proofs.Fresh.{class_out, residence_out, group_done, group_out, group_unused, group_unsound, rate_out, burst_out, stream_done}
 use Rattle.bridge.specs.Tables.{group_at, stream_at, with_group, with_stream}
-use Rattle.calls.specs.Calls.{group_taken, group_placed, stream_taken, stream_placed, judged_at}
+use Rattle.calls.specs.Calls.{taken, group_placed, stream_placed, judged_at}
 use Rattle.bridge.specs.Calls.{group_stored, group_called, stream_stored, stream_called, frame_stored, frame_called}
 use Rattle.bridge.specs.declared.Bridge.{Bridge}
-use Rattle.calls.specs.declared.SetUp.TheVariants.{Done, Refused}
 use Rattle.bridge.proofs.Tables.{same_group, same_stream}
 use Rattle.calls.proofs.Returns.{group_id_out, group_before, group_taken_law, stream_id_out, stream_before, stream_taken_law, frame_id_out, frame_id_in}
+use Rattle.std.proofs.Common.{Ok, Err}
 
 -- ---- setting up a group
 pub record NewGroup (b : Bridge) (i c M : ℕ) : Type 0 where
@@ -35,44 +35,44 @@ pub record NewGroup (b : Bridge) (i c M : ℕ) : Type 0 where
   pub unused : (group_at b i).used ≡ false
   pub class : in_range Class c ≡ true
   pub residence : in_range Residence M ≡ true
-  pub gives : group_called b i c M ≡ record { answer = Done; bridge = with_group b i (fresh_group c M) }
+  pub gives : group_called b i c M ≡ record { answer = (Ok tt); bridge = with_group b i (fresh_group c M) }
 
 pub record KeptGroup (b : Bridge) (i c M : ℕ) : Type 0 where
   pub why : Refusal
   pub sound : number_of why ≡ number_of Unsound → ⊥
-  pub gives : group_called b i c M ≡ record { answer = Refused why; bridge = b }
+  pub gives : group_called b i c M ≡ record { answer = Err why; bridge = b }
 
 module _ (b : Bridge) (i c M : ℕ) where
-  group_kept : (why : Refusal) → group_placed i (group_at b i) c M ≡ record { answer = Refused why; group = group_at b i } → group_called b i c M ≡ record { answer = Refused why; bridge = b }
+  group_kept : (why : Refusal) → group_placed i (group_at b i) c M ≡ record { answer = Err why; after = group_at b i } → group_called b i c M ≡ record { answer = Err why; bridge = b }
   unfolding group_called group_stored
-  group_kept why e = ap (group_stored b i) e ∙ ap (λ (x : Bridge). record { answer = Refused why; bridge = x }) (same_group b i)
+  group_kept why e = ap (group_stored b i) e ∙ ap (λ (x : Bridge). record { answer = Err why; bridge = x }) (same_group b i)
 
   pub group_makes : in_range GroupId i ≡ true → (group_at b i).used ≡ false → in_range Class c ≡ true → in_range Residence M ≡ true → NewGroup b i c M
-  unfolding group_called group_stored group_taken
+  unfolding group_called group_stored taken
   group_makes h u k e = record {
     id = h;
     unused = u;
     class = k;
     residence = e;
-    gives = ap (group_stored b i) (group_taken_law i (group_at b i) c M h u ∙ ap (group_taken (group_at b i)) (group_done c M k e));
+    gives = ap (group_stored b i) (group_taken_law i (group_at b i) c M h u ∙ ap (taken (group_at b i)) (group_done c M k e));
   }
 
   pub group_view : KeptGroup b i c M ⊎ NewGroup b i c M
-  unfolding group_called group_stored group_taken
+  unfolding group_called group_stored taken
   group_view = at_15 (in_range GroupId i) refl
     where
       g : Group
       g = group_at b i
 
-      kept : (why : Refusal) → (number_of why ≡ number_of Unsound → ⊥) → group_placed i g c M ≡ record { answer = Refused why; group = g } → KeptGroup b i c M ⊎ NewGroup b i c M
+      kept : (why : Refusal) → (number_of why ≡ number_of Unsound → ⊥) → group_placed i g c M ≡ record { answer = Err why; after = g } → KeptGroup b i c M ⊎ NewGroup b i c M
       kept why s e = inl (record { why = why; sound = s; gives = group_kept why e })
 
       at_20 : (t : Bool) → in_range Residence M ≡ t → in_range GroupId i ≡ true → g.used ≡ false → in_range Class c ≡ true → KeptGroup b i c M ⊎ NewGroup b i c M
-      at_20 false e h u k = kept ResidenceRange (λ x. omega arith) (group_taken_law i g c M h u ∙ ap (group_taken g) (residence_out c M k e))
+      at_20 false e h u k = kept ResidenceRange (λ x. omega arith) (group_taken_law i g c M h u ∙ ap (taken g) (residence_out c M k e))
       at_20 true e h u k = inr (group_makes h u k e)
 
       at_21 : (t : Bool) → in_range Class c ≡ t → in_range GroupId i ≡ true → g.used ≡ false → KeptGroup b i c M ⊎ NewGroup b i c M
-      at_21 false e h u = kept ClassRange (λ x. omega arith) (group_taken_law i g c M h u ∙ ap (group_taken g) (class_out c M e))
+      at_21 false e h u = kept ClassRange (λ x. omega arith) (group_taken_law i g c M h u ∙ ap (taken g) (class_out c M e))
       at_21 true e h u = at_20 (in_range Residence M) refl h u e
 
       at_16 : (t : Bool) → g.used ≡ t → in_range GroupId i ≡ true → KeptGroup b i c M ⊎ NewGroup b i c M
@@ -92,20 +92,20 @@ pub record NewStream (b : Bridge) (i k r u : ℕ) : Type 0 where
   pub group : sound_group (group_at b k) ≡ true
   pub rate : in_range StreamRate r ≡ true
   pub burst : in_range Burst u ≡ true
-  pub gives : stream_called b i k r u ≡ record { answer = Done; bridge = with_stream b i (fresh_stream k r u) }
+  pub gives : stream_called b i k r u ≡ record { answer = (Ok tt); bridge = with_stream b i (fresh_stream k r u) }
 
 pub record KeptStream (b : Bridge) (i k r u : ℕ) : Type 0 where
   pub why : Refusal
   pub sound : number_of why ≡ number_of Unsound → ((group_at b k).used ≡ true) × (sound_group (group_at b k) ≡ false)
-  pub gives : stream_called b i k r u ≡ record { answer = Refused why; bridge = b }
+  pub gives : stream_called b i k r u ≡ record { answer = Err why; bridge = b }
 
 module _ (b : Bridge) (i k r u : ℕ) where
-  stream_kept : (why : Refusal) → stream_placed i (stream_at b i) k (group_at b k) r u ≡ record { answer = Refused why; stream = stream_at b i } → stream_called b i k r u ≡ record { answer = Refused why; bridge = b }
+  stream_kept : (why : Refusal) → stream_placed i (stream_at b i) k (group_at b k) r u ≡ record { answer = Err why; after = stream_at b i } → stream_called b i k r u ≡ record { answer = Err why; bridge = b }
   unfolding stream_called stream_stored
-  stream_kept why e = ap (stream_stored b i) e ∙ ap (λ (x : Bridge). record { answer = Refused why; bridge = x }) (same_stream b i)
+  stream_kept why e = ap (stream_stored b i) e ∙ ap (λ (x : Bridge). record { answer = Err why; bridge = x }) (same_stream b i)
 
   pub stream_makes : in_range StreamId i ≡ true → is_set_up (stream_at b i).regulator ≡ false → in_range GroupId k ≡ true → (group_at b k).used ≡ true → sound_group (group_at b k) ≡ true → in_range StreamRate r ≡ true → in_range Burst u ≡ true → NewStream b i k r u
-  unfolding stream_called stream_stored stream_taken
+  unfolding stream_called stream_stored taken
   stream_makes h n a d o f e = record {
     id = h;
     unset = n;
@@ -114,11 +114,11 @@ module _ (b : Bridge) (i k r u : ℕ) where
     group = o;
     rate = f;
     burst = e;
-    gives = ap (stream_stored b i) (stream_taken_law i (stream_at b i) k (group_at b k) r u h n ∙ ap (stream_taken (stream_at b i)) (stream_done k (group_at b k) r u a d o f e));
+    gives = ap (stream_stored b i) (stream_taken_law i (stream_at b i) k (group_at b k) r u h n ∙ ap (taken (stream_at b i)) (stream_done k (group_at b k) r u a d o f e));
   }
 
   pub stream_view : KeptStream b i k r u ⊎ NewStream b i k r u
-  unfolding stream_called stream_stored stream_taken
+  unfolding stream_called stream_stored taken
   stream_view = at_15 (in_range StreamId i) refl
     where
       s : Stream
@@ -127,27 +127,27 @@ module _ (b : Bridge) (i k r u : ℕ) where
       g : Group
       g = group_at b k
 
-      kept : (why : Refusal) → (number_of why ≡ number_of Unsound → (g.used ≡ true) × (sound_group g ≡ false)) → stream_placed i s k g r u ≡ record { answer = Refused why; stream = s } → KeptStream b i k r u ⊎ NewStream b i k r u
+      kept : (why : Refusal) → (number_of why ≡ number_of Unsound → (g.used ≡ true) × (sound_group g ≡ false)) → stream_placed i s k g r u ≡ record { answer = Err why; after = s } → KeptStream b i k r u ⊎ NewStream b i k r u
       kept why z e = inl (record { why = why; sound = z; gives = stream_kept why e })
 
       at_19 : (t : Bool) → in_range Burst u ≡ t → in_range StreamId i ≡ true → is_set_up s.regulator ≡ false → in_range GroupId k ≡ true → g.used ≡ true → sound_group g ≡ true → in_range StreamRate r ≡ true → KeptStream b i k r u ⊎ NewStream b i k r u
-      at_19 false e h n a d o f = kept BurstRange (λ x. absurd (omega arith)) (stream_taken_law i s k g r u h n ∙ ap (stream_taken s) (burst_out k g r u a d o f e))
+      at_19 false e h n a d o f = kept BurstRange (λ x. absurd (omega arith)) (stream_taken_law i s k g r u h n ∙ ap (taken s) (burst_out k g r u a d o f e))
       at_19 true e h n a d o f = inr (stream_makes h n a d o f e)
 
       at_18 : (t : Bool) → in_range StreamRate r ≡ t → in_range StreamId i ≡ true → is_set_up s.regulator ≡ false → in_range GroupId k ≡ true → g.used ≡ true → sound_group g ≡ true → KeptStream b i k r u ⊎ NewStream b i k r u
-      at_18 false e h n a d o = kept RateRange (λ x. absurd (omega arith)) (stream_taken_law i s k g r u h n ∙ ap (stream_taken s) (rate_out k g r u a d o e))
+      at_18 false e h n a d o = kept RateRange (λ x. absurd (omega arith)) (stream_taken_law i s k g r u h n ∙ ap (taken s) (rate_out k g r u a d o e))
       at_18 true e h n a d o = at_19 (in_range Burst u) refl h n a d o e
 
       at_9 : (t : Bool) → sound_group g ≡ t → in_range StreamId i ≡ true → is_set_up s.regulator ≡ false → in_range GroupId k ≡ true → g.used ≡ true → KeptStream b i k r u ⊎ NewStream b i k r u
-      at_9 false e h n a d = kept Unsound (λ x. (d, e)) (stream_taken_law i s k g r u h n ∙ ap (stream_taken s) (group_unsound k g r u a d e))
+      at_9 false e h n a d = kept Unsound (λ x. (d, e)) (stream_taken_law i s k g r u h n ∙ ap (taken s) (group_unsound k g r u a d e))
       at_9 true e h n a d = at_18 (in_range StreamRate r) refl h n a d e
 
       used_17 : (t : Bool) → g.used ≡ t → in_range StreamId i ≡ true → is_set_up s.regulator ≡ false → in_range GroupId k ≡ true → KeptStream b i k r u ⊎ NewStream b i k r u
-      used_17 false e h n a = kept NoGroup (λ x. absurd (omega arith)) (stream_taken_law i s k g r u h n ∙ ap (stream_taken s) (group_unused k g r u e))
+      used_17 false e h n a = kept NoGroup (λ x. absurd (omega arith)) (stream_taken_law i s k g r u h n ∙ ap (taken s) (group_unused k g r u e))
       used_17 true e h n a = at_9 (sound_group g) refl h n a e
 
       at_17 : (t : Bool) → in_range GroupId k ≡ t → in_range StreamId i ≡ true → is_set_up s.regulator ≡ false → KeptStream b i k r u ⊎ NewStream b i k r u
-      at_17 false e h n = kept NoGroup (λ x. absurd (omega arith)) (stream_taken_law i s k g r u h n ∙ ap (stream_taken s) (group_out k g r u e))
+      at_17 false e h n = kept NoGroup (λ x. absurd (omega arith)) (stream_taken_law i s k g r u h n ∙ ap (taken s) (group_out k g r u e))
       at_17 true e h n = used_17 g.used refl h n e
 
       at_16 : (t : Bool) → is_set_up s.regulator ≡ t → in_range StreamId i ≡ true → KeptStream b i k r u ⊎ NewStream b i k r u

@@ -3,21 +3,31 @@
 use Rattle.std.specs.Prelude.{ℕ}
 use Rattle.shaper.specs.declared.Judged.{Judged}
 use Rattle.calls.specs.Calls.{group_placed, stream_placed, judged_at}
-use Rattle.calls.specs.declared.PlacedGroup.{PlacedGroup}
-use Rattle.calls.specs.declared.PlacedStream.{PlacedStream}
+use Rattle.calls.specs.declared.Placed.{Placed}
+use Rattle.std.specs.declared.result.Result.{Result}
+use Rattle.quantity.specs.declared.Refusal.{Refusal}
+use Rattle.records.specs.declared.Answer.{Answer}
+use Rattle.records.specs.declared.Group.{Group}
+use Rattle.records.specs.declared.Stream.{Stream}
 use Rattle.bridge.specs.Tables.{group_at, stream_at, with_group, with_stream}
 use Rattle.bridge.specs.declared.Bridge.{Bridge}
-use Rattle.bridge.specs.declared.BridgeSetUp.{BridgeSetUp}
-use Rattle.bridge.specs.declared.Framed.{Framed}
+use Rattle.bridge.specs.declared.Called.{Called}
 
-unfoldable pub group_stored : Bridge → ℕ → PlacedGroup → BridgeSetUp
-group_stored b i p = record { answer = p.answer; bridge = with_group b i p.group }
+-- what a set-up answers, and what a frame does, with the tables after it
+abbrev pub BridgeSetUp : Type 0
+BridgeSetUp = Called (Result (Unit {0}) Refusal)
+
+abbrev pub Framed : Type 0
+Framed = Called Answer
+
+unfoldable pub group_stored : Bridge → ℕ → Placed Group → BridgeSetUp
+group_stored b i p = record { answer = p.answer; bridge = with_group b i p.after }
 
 unfoldable pub group_called : Bridge → ℕ → ℕ → ℕ → BridgeSetUp
 group_called b i c M = group_stored b i (group_placed i (group_at b i) c M)
 
-unfoldable pub stream_stored : Bridge → ℕ → PlacedStream → BridgeSetUp
-stream_stored b i p = record { answer = p.answer; bridge = with_stream b i p.stream }
+unfoldable pub stream_stored : Bridge → ℕ → Placed Stream → BridgeSetUp
+stream_stored b i p = record { answer = p.answer; bridge = with_stream b i p.after }
 
 unfoldable pub stream_called : Bridge → ℕ → ℕ → ℕ → ℕ → BridgeSetUp
 stream_called b i k r u = stream_stored b i (stream_placed i (stream_at b i) k (group_at b k) r u)

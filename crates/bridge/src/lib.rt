@@ -6,8 +6,8 @@ ghost use Rattle.std.specs.Prelude.{◌≡◌};
 ghost use Rattle.bridge.specs.Tables.{no_group, no_stream, fresh_bridge};
 ghost use Rattle.bridge.specs.Calls.{group_called, stream_called, frame_called};
 
-use calls::{SetUp, judge_at, place_group, place_stream};
-use quantity::{Bits, Item, Rate, Ticks, place_of};
+use calls::{judge_at, place_group, place_stream};
+use quantity::{Bits, Item, Rate, Refusal, Ticks, place_of};
 use records::{Answer, Group, Regulator, Stream};
 
 #[derive(Clone, Copy, Drop)]
@@ -17,15 +17,9 @@ pub struct Bridge {
 }
 
 // The answer to a call, and the tables after it.
-#[derive(Clone, Copy, Drop)]
-pub struct BridgeSetUp {
-    pub answer: SetUp,
-    pub bridge: Bridge,
-}
-
-#[derive(Clone, Copy, Drop)]
-pub struct Framed {
-    pub answer: Answer,
+#[derive(Clone, Copy)]
+pub struct Called<A> {
+    pub answer: A,
     pub bridge: Bridge,
 }
 
@@ -65,57 +59,62 @@ pub fn fresh() -> Bridge
 }
 
 // Sets up a group.
-pub fn set_up_group(bridge: Bridge, id: u8, class: u8, residence: Ticks) -> BridgeSetUp
+pub fn set_up_group(
+    mut bridge: Bridge,
+    id: u8,
+    class: u8,
+    residence: Ticks,
+) -> Called<Result<(), Refusal>>
     ensures { result ≡ group_called bridge id class residence.0 }
 {
-    let mut groups = bridge.groups;
-    let streams = bridge.streams;
     let at = place_of(Item::GroupId, id);
-    let placed = place_group(id, groups[at], class, residence);
-    let after = placed.group;
-    let answer = placed.answer;
-    groups[at] = after;
-    BridgeSetUp {
-        answer,
-        bridge: Bridge { groups, streams },
+    let placed = place_group(id, bridge.groups[at], class, residence);
+    bridge.groups[at] = placed.after;
+    Called {
+        answer: placed.answer,
+        bridge,
     }
 }
 
 // Sets up a stream in a group.
-pub fn set_up_stream(bridge: Bridge, id: u8, group: u8, rate: Rate, burst: Bits) -> BridgeSetUp
+pub fn set_up_stream(
+    mut bridge: Bridge,
+    id: u8,
+    group: u8,
+    rate: Rate,
+    burst: Bits,
+) -> Called<Result<(), Refusal>>
     ensures { result ≡ stream_called bridge id group rate.0 burst.0 }
 {
-    let groups = bridge.groups;
-    let mut streams = bridge.streams;
     let at = place_of(Item::StreamId, id);
     let of = place_of(Item::GroupId, group);
-    let placed = place_stream(id, streams[at], group, groups[of], rate, burst);
-    let after = placed.stream;
-    let answer = placed.answer;
-    streams[at] = after;
-    BridgeSetUp {
-        answer,
-        bridge: Bridge { groups, streams },
+    let placed = place_stream(
+        id,
+        bridge.streams[at],
+        group,
+        bridge.groups[of],
+        rate,
+        burst,
+    );
+    bridge.streams[at] = placed.after;
+    Called {
+        answer: placed.answer,
+        bridge,
     }
 }
 
 // Judges a frame of a stream.
-pub fn frame(bridge: Bridge, id: u8, octets: u16, arrival: Ticks) -> Framed
+pub fn frame(mut bridge: Bridge, id: u8, octets: u16, arrival: Ticks) -> Called<Answer>
     ensures { result ≡ frame_called bridge id octets arrival.0 }
 {
-    let mut groups = bridge.groups;
-    let mut streams = bridge.streams;
     let at = place_of(Item::StreamId, id);
-    let stream = streams[at];
+    let stream = bridge.streams[at];
     let of = place_of(Item::GroupId, stream.group);
-    let judged = judge_at(id, stream, groups[of], octets, arrival);
-    let answer = judged.answer;
-    let stream_after = judged.stream;
-    let group_after = judged.group;
-    streams[at] = stream_after;
-    groups[of] = group_after;
-    Framed {
-        answer,
-        bridge: Bridge { groups, streams },
+    let judged = judge_at(id, stream, bridge.groups[of], octets, arrival);
+    bridge.streams[at] = judged.stream;
+    bridge.groups[of] = judged.group;
+    Called {
+        answer: judged.answer,
+        bridge,
     }
 }

@@ -9,73 +9,52 @@ ghost use Rattle.calls.specs.Numbers.{set_up_number};
 
 use quantity::{Bits, Item, Rate, Refusal, Ticks, in_range, refusal_number};
 use records::{Answer, Group, Stream};
-use setup::{GroupSetUp, StreamSetUp};
 use shaper::Judged;
 
-#[derive(Clone, Copy, Drop)]
-pub enum SetUp {
-    Done,
-    Refused(Refusal),
-}
-
 // The answer to a set-up, and the record at its place after it.
-#[derive(Clone, Copy, Drop)]
-pub struct PlacedGroup {
-    pub answer: SetUp,
-    pub group: Group,
-}
-
-#[derive(Clone, Copy, Drop)]
-pub struct PlacedStream {
-    pub answer: SetUp,
-    pub stream: Stream,
+#[derive(Clone, Copy)]
+pub struct Placed<R> {
+    pub answer: Result<(), Refusal>,
+    pub after: R,
 }
 
 // Document 01's number of a set-up's answer.
-pub fn set_up_number(answer: SetUp) -> u8
+pub fn set_up_number(answer: Result<(), Refusal>) -> u8
     ensures { result ≡ set_up_number answer }
 {
     match answer {
-        SetUp::Done => 0,
-        SetUp::Refused(why) => refusal_number(why),
+        Ok(()) => 0,
+        Err(why) => refusal_number(why),
     }
 }
 
-fn kept_group(group: Group, why: Refusal) -> PlacedGroup
-    ensures { result ≡ record { answer = SetUp.Refused why; group = group } }
+// What stood at the place stays.
+fn kept<R>(standing: R, why: Refusal) -> Placed<R>
+    ensures { result ≡ record { answer = Err why; after = standing } }
 {
-    PlacedGroup {
-        answer: SetUp::Refused(why),
-        group,
+    Placed {
+        answer: Err(why),
+        after: standing,
     }
 }
 
 // Sets up the group `id`, at whose place `group` stands.
-pub fn place_group(id: u8, group: Group, class: u8, residence: Ticks) -> PlacedGroup
+pub fn place_group(id: u8, group: Group, class: u8, residence: Ticks) -> Placed<Group>
     ensures { result ≡ group_placed id group class residence.0 }
 {
     let used = group.used;
     if !in_range(Item::GroupId, id as u64) {
-        return kept_group(group, Refusal::IdRange);
+        return kept(group, Refusal::IdRange);
     }
     if used {
-        return kept_group(group, Refusal::SetUpBefore);
+        return kept(group, Refusal::SetUpBefore);
     }
     match setup::set_up_group(class, residence) {
-        GroupSetUp::Refused(why) => kept_group(group, why),
-        GroupSetUp::Done(fresh) => PlacedGroup {
-            answer: SetUp::Done,
-            group: fresh,
+        Err(why) => kept(group, why),
+        Ok(fresh_group) => Placed {
+            answer: Ok(()),
+            after: fresh_group,
         },
-    }
-}
-
-fn kept_stream(stream: Stream, why: Refusal) -> PlacedStream
-    ensures { result ≡ record { answer = SetUp.Refused why; stream = stream } }
-{
-    PlacedStream {
-        answer: SetUp::Refused(why),
-        stream,
     }
 }
 
@@ -87,21 +66,21 @@ pub fn place_stream(
     group: Group,
     rate: Rate,
     burst: Bits,
-) -> PlacedStream
+) -> Placed<Stream>
     ensures { result ≡ stream_placed id stream in_group group rate.0 burst.0 }
 {
     let regulator = stream.regulator;
     if !in_range(Item::StreamId, id as u64) {
-        return kept_stream(stream, Refusal::IdRange);
+        return kept(stream, Refusal::IdRange);
     }
     if records::is_set_up(regulator) {
-        return kept_stream(stream, Refusal::SetUpBefore);
+        return kept(stream, Refusal::SetUpBefore);
     }
     match setup::set_up_stream(in_group, group, rate, burst) {
-        StreamSetUp::Refused(why) => kept_stream(stream, why),
-        StreamSetUp::Done(fresh) => PlacedStream {
-            answer: SetUp::Done,
-            stream: fresh,
+        Err(why) => kept(stream, why),
+        Ok(fresh_stream) => Placed {
+            answer: Ok(()),
+            after: fresh_stream,
         },
     }
 }

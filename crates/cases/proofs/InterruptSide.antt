@@ -13,7 +13,7 @@ use Rattle.setup.specs.SetUp.{fresh_group, fresh_stream, group_set_up, stream_se
 use Rattle.admission.specs.Tests.{above_burst, tested}
 use Rattle.shaper.specs.Frame.{S, F, E_after, earliest, after_release, eligibility_time, released, settled, process_frame}
 use Rattle.shaper.specs.Numbers.{after_tests, judged}
-use Rattle.calls.specs.Calls.{group_taken, group_placed, stream_taken, stream_placed}
+use Rattle.calls.specs.Calls.{taken, group_placed, stream_placed}
 use Rattle.calls.specs.Numbers.{set_up_number}
 use Rattle.bridge.specs.Tables.{fresh_bridge, group_at, stream_at, no_stream, with_group, with_stream}
 use Rattle.bridge.specs.Calls.{group_stored, group_called, stream_stored, stream_called}
@@ -27,7 +27,7 @@ use Rattle.firmware.proofs.Promises.{refused_stays_for_c, refused_group_stays, r
 use Rattle.cases.specs.InterruptSide.{tables, left_over, group_of_c, streams_of_c, InterruptSideExamples}
 
 pub interrupt_side_examples : InterruptSideExamples
-unfolding time_after after_call fresh_bridge group_at stream_at with_group with_stream group_called group_stored group_placed group_taken stream_called stream_stored stream_placed stream_taken group_set_up stream_set_up fresh_group fresh_stream judged after_tests tested above_burst sound sound_group sound_regulator in_range process_frame settled released eligibility_time earliest after_release E_first S F E_after exactly moment_of rounded_up charged_bits after set_up_number answer_number judged_in received group_of group_record stream_of rewritten stream_record stream_records group_told stream_told lent_after frame_received
+unfolding time_after after_call fresh_bridge group_at stream_at with_group with_stream group_called group_stored group_placed taken stream_called stream_stored stream_placed group_set_up stream_set_up fresh_group fresh_stream judged after_tests tested above_burst sound sound_group sound_regulator in_range process_frame settled released eligibility_time earliest after_release E_first S F E_after exactly moment_of rounded_up charged_bits after set_up_number answer_number judged_in received group_of group_record stream_of rewritten stream_record stream_records group_told stream_told lent_after frame_received
 interrupt_side_examples = record {
   run_length = refl;
   set_up = refl;

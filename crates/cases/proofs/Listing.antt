@@ -12,7 +12,7 @@ use Rattle.setup.specs.SetUp.{group_set_up, stream_set_up, fresh_stream, fresh_g
 use Rattle.admission.specs.Tests.{above_burst, tested}
 use Rattle.shaper.specs.Frame.{process_frame, settled, released, eligibility_time, earliest, after_release, S, F, E_after}
 use Rattle.shaper.specs.Numbers.{after_tests, judged}
-use Rattle.calls.specs.Calls.{group_placed, group_taken, stream_placed, stream_taken, judged_at}
+use Rattle.calls.specs.Calls.{group_placed, taken, stream_placed, judged_at}
 use Rattle.calls.specs.Numbers.{set_up_number}
 use Rattle.bridge.specs.Calls.{group_called, group_stored, stream_called, stream_stored, frame_called, frame_stored}
 use Rattle.bridge.specs.History.{reply, after_call}
@@ -33,7 +33,7 @@ use Rattle.cases.specs.Listing.{cut_file, ListingExamples}
 use Rattle.cases.proofs.Bytes.{are_bytes}
 
 pub listing_examples : ListingExamples
-unfolding part_of part_for stops_at going_on may_go_on onto end_put may_end put_where ending end_line record_line line_of column call_of reply after_call group_called group_stored group_placed group_taken stream_called stream_stored stream_placed stream_taken frame_called frame_stored judged_at group_at stream_at with_group with_stream fresh_bridge set_up_number group_set_up stream_set_up fresh_stream fresh_group judged after_tests tested answer_number answer_values above_burst sound sound_group sound_regulator in_range process_frame settled released eligibility_time earliest after_release E_first S F E_after exactly moment_of rounded_up charged_bits read_at read_left read_marked marked_among kinds is_mark read_fields field_numbers number total size digit last_digits fewest digit_count decimal
+unfolding part_of part_for stops_at going_on may_go_on onto end_put may_end put_where ending end_line record_line line_of column call_of reply after_call group_called group_stored group_placed taken stream_called stream_stored stream_placed frame_called frame_stored judged_at group_at stream_at with_group with_stream fresh_bridge set_up_number group_set_up stream_set_up fresh_stream fresh_group judged after_tests tested answer_number answer_values above_burst sound sound_group sound_regulator in_range process_frame settled released eligibility_time earliest after_release E_first S F E_after exactly moment_of rounded_up charged_bits read_at read_left read_marked marked_among kinds is_mark read_fields field_numbers number total size digit last_digits fewest digit_count decimal
 listing_examples = record {
   are_bytes = are_bytes cut_file refl;
   lines_of_cut = refl;

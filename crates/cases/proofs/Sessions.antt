@@ -12,7 +12,7 @@ use Rattle.records.specs.ExactTime.{exactly, moment_of, rounded_up, E_first}
 use Rattle.records.specs.Numbers.{answer_number, answer_values}
 use Rattle.records.specs.Sound.{sound, sound_group, sound_regulator}
 use Rattle.setup.specs.SetUp.{group_set_up, stream_set_up, fresh_stream, fresh_group}
-use Rattle.calls.specs.Calls.{group_placed, group_taken, stream_placed, stream_taken}
+use Rattle.calls.specs.Calls.{group_placed, taken, stream_placed}
 use Rattle.calls.specs.Numbers.{set_up_number}
 use Rattle.bridge.specs.Calls.{group_called, group_stored, stream_called, stream_stored}
 use Rattle.bridge.specs.History.{reply, after_call}
@@ -38,7 +38,7 @@ use Rattle.cases.specs.Sessions.{in_three, broken, two_frames, SessionExamples}
 use Rattle.cases.proofs.Bytes.{are_bytes}
 
 pub session_examples : SessionExamples
-unfolding bytes_of readings listing_session session stopped written onward list_turn turn_of next_of at_edge unended end_if start lines_of answer_lines pick_lines part_of part_for stops_at going_on may_go_on onto record_line line_of column call_of reply after_call group_called group_stored group_placed group_taken stream_called stream_stored stream_placed stream_taken group_at stream_at with_group with_stream fresh_bridge set_up_number group_set_up stream_set_up fresh_stream fresh_group answer_number answer_values sound sound_group sound_regulator in_range E_first exactly moment_of rounded_up charged_bits read_at read_left read_marked marked_among kinds is_mark read_fields field_numbers number total size digit last_digits fewest digit_count decimal
+unfolding bytes_of readings listing_session session stopped written onward list_turn turn_of next_of at_edge unended end_if start lines_of answer_lines pick_lines part_of part_for stops_at going_on may_go_on onto record_line line_of column call_of reply after_call group_called group_stored group_placed taken stream_called stream_stored stream_placed group_at stream_at with_group with_stream fresh_bridge set_up_number group_set_up stream_set_up fresh_stream fresh_group answer_number answer_values sound sound_group sound_regulator in_range E_first exactly moment_of rounded_up charged_bits read_at read_left read_marked marked_among kinds is_mark read_fields field_numbers number total size digit last_digits fewest digit_count decimal
 session_examples = record {
   all_of_it = refl;
   are_bytes = are_bytes example_file refl;

@@ -10,7 +10,7 @@ use Rattle.quantity.specs.declared.Refusal.{Refusal}
 use Rattle.quantity.specs.declared.Refusal.TheVariants.{SetUpBefore}
 use Rattle.records.specs.Sound.{sound_group}
 use Rattle.setup.specs.SetUp.{group_set_up, stream_set_up, fresh_stream, fresh_group}
-use Rattle.calls.specs.Calls.{group_placed, group_taken, stream_placed, stream_taken}
+use Rattle.calls.specs.Calls.{group_placed, taken, stream_placed}
 use Rattle.bridge.specs.Calls.{group_called, group_stored, stream_called, stream_stored}
 use Rattle.bridge.specs.History.{after, after_call}
 use Rattle.bridge.specs.Tables.{group_at, stream_at, with_group, with_stream, fresh_bridge}
@@ -36,7 +36,7 @@ no_more why cut_short p =
     omega arith
 
 pub yard_examples : YardExamples
-unfolding gather_from gather_for begun next onward frame_taken setting_up after_set_up set_up_taken called task_at room_in task_for task_of has_room ended after after_call group_called group_stored group_placed group_taken stream_called stream_stored stream_placed stream_taken group_at stream_at with_group with_stream fresh_bridge group_set_up stream_set_up fresh_stream fresh_group sound_group in_range read_at read_left read_marked marked_among kinds is_mark read_fields field_numbers number total size
+unfolding gather_from gather_for begun next onward frame_taken setting_up after_set_up set_up_taken called task_at room_in task_for task_of has_room ended after after_call group_called group_stored group_placed taken stream_called stream_stored stream_placed group_at stream_at with_group with_stream fresh_bridge group_set_up stream_set_up fresh_stream fresh_group sound_group in_range read_at read_left read_marked marked_among kinds is_mark read_fields field_numbers number total size
 yard_examples = record {
   default_residence = refl;
   place_in_file = lit≤ tt;

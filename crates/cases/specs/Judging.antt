@@ -10,7 +10,7 @@ use Rattle.setup.specs.SetUp.{fresh_group, fresh_stream, group_set_up, stream_se
 use Rattle.admission.specs.Tests.{above_burst, tested}
 use Rattle.shaper.specs.Frame.{S, F, E_after, earliest, after_release, eligibility_time, discarded, released, settled, process_frame}
 use Rattle.shaper.specs.Numbers.{after_tests, judged}
-use Rattle.calls.specs.Calls.{group_taken, group_placed, stream_taken, stream_placed, judged_at}
+use Rattle.calls.specs.Calls.{taken, group_placed, stream_placed, judged_at}
 use Rattle.calls.specs.Numbers.{set_up_number}
 use Rattle.bridge.specs.Tables.{fresh_bridge, group_at, stream_at, with_group, with_stream}
 use Rattle.bridge.specs.Calls.{group_stored, group_called, stream_stored, stream_called, frame_stored, frame_called}
@@ -57,5 +57,5 @@ expected =
     ∷ []
 
 pub judging : given ≡ expected
-unfolding given expected answers_to numbered by_default last_arrival whole_ticks call_of replies reply after_call group_called group_stored group_placed group_taken stream_called stream_stored stream_placed stream_taken frame_called frame_stored judged_at group_at stream_at with_group with_stream fresh_bridge set_up_number group_set_up stream_set_up fresh_stream fresh_group judged after_tests tested answer_number answer_values above_burst sound sound_group sound_regulator in_range process_frame settled discarded released eligibility_time earliest after_release E_first S F E_after exactly moment_of rounded_up charged_bits
+unfolding given expected answers_to numbered by_default last_arrival whole_ticks call_of replies reply after_call group_called group_stored group_placed taken stream_called stream_stored stream_placed frame_called frame_stored judged_at group_at stream_at with_group with_stream fresh_bridge set_up_number group_set_up stream_set_up fresh_stream fresh_group judged after_tests tested answer_number answer_values above_burst sound sound_group sound_regulator in_range process_frame settled discarded released eligibility_time earliest after_release E_first S F E_after exactly moment_of rounded_up charged_bits
 judging = refl

@@ -1,6 +1,6 @@
 -- Values at which the premises of the round trip of the table file hold, in `reader` and in `promises`: document 01's example file and its records.
 -- Each field of the record is a premise at these values, or what comes of it. Places and widths are plain numbers.
-use Rattle.std.specs.Prelude.{ℕ, ◌-◌, ◌≤◌, ◌≡◌, List, [], ◌∷◌, length, drop, replicate}
+use Rattle.std.specs.Prelude.{ℕ, ◌-◌, ◌≤◌, ◌≡◌, List, [], ◌∷◌, length, drop, replicate, Ok}
 use Rattle.std.proofs.Math.Option.{some}
 use Rattle.tablefile.specs.Answers.{written_number, reading_number, nothing_left, reading_values, written_values}
 use Rattle.quantity.specs.Numbers.{least_refusal}
@@ -10,7 +10,6 @@ use Rattle.tablefile.specs.Layout.{ST, mark_width, widths, record_of, field_numb
 use Rattle.tablefile.specs.declared.Record.{Record}
 use Rattle.tablefile.specs.declared.Record.TheVariants.{Group, GroupDefault, Stream, Frame}
 use Rattle.tablefile.specs.declared.Reading.TheVariants.{Found}
-use Rattle.tablefile.specs.declared.Written.TheVariants.{Bytes}
 use Rattle.reader.specs.Reader.{read_at}
 use Rattle.reader.specs.File.{AllFit, file_of}
 use Rattle.reader.specs.Figures.{stream_line, example_file}
@@ -53,7 +52,7 @@ pub record TableFileExamples : Type 0 where
   pub default_fits : Fits (GroupDefault 0 6)
   pub their_bytes : file_of example_records ≡ example_file
   -- WrittenIsRead: the stream's record is written into a part of 20 places
-  pub written : (write_to stream_record (lent 20)).answer ≡ Bytes 16
+  pub written : (write_to stream_record (lent 20)).answer ≡ Ok 16
   pub written_values_is : written_values (write_to stream_record (lent 20)).answer ≡ some 16
   -- ReadIsWritten: the part has room for the bytes that were read
   pub room : 28 - 12 ≤ length (lent 20)

@@ -20,8 +20,7 @@ use Rattle.records.specs.declared.Regulator.TheVariants.{Unset, Bucket}
 use Rattle.calls.specs.Calls.{group_placed, stream_placed}
 use Rattle.calls.specs.Numbers.{set_up_number}
 use Rattle.bridge.specs.Tables.{no_stream}
-use Rattle.calls.specs.declared.PlacedGroup.{PlacedGroup}
-use Rattle.calls.specs.declared.PlacedStream.{PlacedStream}
+use Rattle.calls.specs.declared.Placed.{Placed}
 use Rattle.lent.specs.InPlace.{judged_in}
 use Rattle.lent.specs.Steps.{ready, unreadiness}
 use Rattle.firmware.specs.Steps.{most_of_byte, most_of_half}
@@ -71,7 +70,7 @@ one_rewritten (s ∷ ss) (suc k) d x h = ap (λ (y : StreamRecord). y ∷ set ss
 
 -- ---- the by-value calls; what is in braces is what the code's steps gave
 module _ {i' : ℕ} {h : Group} (g : GroupRecord) (i : ℕ) (ei : i' ≡ min i most_of_byte) (eh : h ≡ group_of g) where
-  pub group_told_law : (c M : ℕ) {c' : ℕ} {p : PlacedGroup} {a : ℕ} {g' : GroupRecord} → c' ≡ min c most_of_byte → p ≡ group_placed i' h c' M → a ≡ set_up_number p.answer → g' ≡ group_record p.group → record { number = a; group = g' } ≡ group_told (group_placed i (group_of g) c M)
+  pub group_told_law : (c M : ℕ) {c' : ℕ} {p : Placed Group} {a : ℕ} {g' : GroupRecord} → c' ≡ min c most_of_byte → p ≡ group_placed i' h c' M → a ≡ set_up_number p.answer → g' ≡ group_record p.after → record { number = a; group = g' } ≡ group_told (group_placed i (group_of g) c M)
   unfolding group_told
   group_told_law c M {p = p} ec ep ea eg =
       let wide = wide_group (group_of g) M i c in
@@ -79,7 +78,7 @@ module _ {i' : ℕ} {h : Group} (g : GroupRecord) (i : ℕ) (ei : i' ≡ min i m
       cc
 
   module _ {x : Stream} (s : StreamRecord) (ex : x ≡ stream_of s) where
-    pub stream_told_law : (k r u : ℕ) {k' : ℕ} {p : PlacedStream} {a : ℕ} {s' : StreamRecord} → k' ≡ min k most_of_byte → p ≡ stream_placed i' x k' h r u → a ≡ set_up_number p.answer → s' ≡ stream_record s p.stream → record { number = a; stream = s' } ≡ stream_told s (stream_placed i (stream_of s) k (group_of g) r u)
+    pub stream_told_law : (k r u : ℕ) {k' : ℕ} {p : Placed Stream} {a : ℕ} {s' : StreamRecord} → k' ≡ min k most_of_byte → p ≡ stream_placed i' x k' h r u → a ≡ set_up_number p.answer → s' ≡ stream_record s p.after → record { number = a; stream = s' } ≡ stream_told s (stream_placed i (stream_of s) k (group_of g) r u)
     unfolding stream_told
     stream_told_law k r u {p = p} ek ep ea es =
         let wide = wide_stream (stream_of s) (group_of g) r u i k in

@@ -11,13 +11,8 @@ use Rattle.quantity.specs.declared.Item.TheVariants.{GroupId, StreamId}
 use Rattle.quantity.specs.declared.Refusal.TheVariants.{IdRange, SetUpBefore}
 use Rattle.records.specs.Numbers.{is_set_up}
 use Rattle.setup.specs.SetUp.{group_set_up, stream_set_up}
-use Rattle.setup.specs.declared.GroupSetUp.{GroupSetUp}
-use Rattle.setup.specs.declared.GroupSetUp.TheVariants as group
-use Rattle.setup.specs.declared.StreamSetUp.{StreamSetUp}
-use Rattle.setup.specs.declared.StreamSetUp.TheVariants as stream
-use Rattle.calls.specs.Calls.{group_taken, group_placed, stream_taken, stream_placed}
+use Rattle.calls.specs.Calls.{taken, group_placed, stream_placed}
 use Rattle.calls.specs.Numbers.{set_up_number}
-use Rattle.calls.specs.declared.SetUp.{SetUp}
 use Rattle.lent.specs.InPlace.{received, Received}
 use Rattle.firmware.specs.Firmware.{group_of, group_record, stream_of, stream_records, time_after, group_told, stream_told, lent_after, frame_received}
 use Rattle.firmware.specs.Promises.{RefusedStaysForC, RefusedGroupStays, RefusedStreamStays}
@@ -25,6 +20,10 @@ use Rattle.firmware.specs.declared.GroupRecord.{GroupRecord}
 use Rattle.firmware.specs.declared.StreamRecord.{StreamRecord}
 use Rattle.lent.proofs.InPlaceLaws.{Ended, ended}
 use Rattle.firmware.proofs.LentRecords.{same_group, same_stream, same_streams}
+use Rattle.std.proofs.Common.{Result, Ok, Err}
+use Rattle.records.specs.declared.Group.{Group}
+use Rattle.quantity.specs.declared.Refusal.{Refusal}
+use Rattle.records.specs.declared.Stream.{Stream}
 
 pub refused_stays_for_c : RefusedStaysForC
 unfolding RefusedStaysForC frame_received lent_after time_after
@@ -39,24 +38,24 @@ refused_stays_for_c i g ss k n A t low = go (ended i (group_of g) (map stream_of
 
 -- ---- the set-ups that C calls
 module _ (g : GroupRecord) where
-  refused_group : (x y : Bool) (p : GroupSetUp) → least_refusal ≤ (group_told (cond (not x) (record { answer = SetUp.Refused IdRange; group = group_of g }) (cond y (record { answer = SetUp.Refused SetUpBefore; group = group_of g }) (group_taken (group_of g) p)))).number → (group_told (cond (not x) (record { answer = SetUp.Refused IdRange; group = group_of g }) (cond y (record { answer = SetUp.Refused SetUpBefore; group = group_of g }) (group_taken (group_of g) p)))).group ≡ g
-  unfolding group_told group_taken set_up_number
+  refused_group : (x y : Bool) (p : Result Group Refusal) → least_refusal ≤ (group_told (cond (not x) (record { answer = Err IdRange; after = group_of g }) (cond y (record { answer = Err SetUpBefore; after = group_of g }) (taken (group_of g) p)))).number → (group_told (cond (not x) (record { answer = Err IdRange; after = group_of g }) (cond y (record { answer = Err SetUpBefore; after = group_of g }) (taken (group_of g) p)))).group ≡ g
+  unfolding group_told taken set_up_number
   refused_group false y p low = same_group g
   refused_group true true p low = same_group g
-  refused_group true false (group.Done new) low = absurd (omega (arith, low))
-  refused_group true false (group.Refused why) low = same_group g
+  refused_group true false (Ok new) low = absurd (omega (arith, low))
+  refused_group true false (Err why) low = same_group g
 
 pub refused_group_stays : RefusedGroupStays
 unfolding RefusedGroupStays group_placed
 refused_group_stays i g c M = refused_group g (in_range GroupId i) (group_of g).used (group_set_up c M)
 
 module _ (s : StreamRecord) where
-  refused_stream : (x y : Bool) (p : StreamSetUp) → least_refusal ≤ (stream_told s (cond (not x) (record { answer = SetUp.Refused IdRange; stream = stream_of s }) (cond y (record { answer = SetUp.Refused SetUpBefore; stream = stream_of s }) (stream_taken (stream_of s) p)))).number → (stream_told s (cond (not x) (record { answer = SetUp.Refused IdRange; stream = stream_of s }) (cond y (record { answer = SetUp.Refused SetUpBefore; stream = stream_of s }) (stream_taken (stream_of s) p)))).stream ≡ s
-  unfolding stream_told stream_taken set_up_number
+  refused_stream : (x y : Bool) (p : Result Stream Refusal) → least_refusal ≤ (stream_told s (cond (not x) (record { answer = Err IdRange; after = stream_of s }) (cond y (record { answer = Err SetUpBefore; after = stream_of s }) (taken (stream_of s) p)))).number → (stream_told s (cond (not x) (record { answer = Err IdRange; after = stream_of s }) (cond y (record { answer = Err SetUpBefore; after = stream_of s }) (taken (stream_of s) p)))).stream ≡ s
+  unfolding stream_told taken set_up_number
   refused_stream false y p low = same_stream s
   refused_stream true true p low = same_stream s
-  refused_stream true false (stream.Done new) low = absurd (omega (arith, low))
-  refused_stream true false (stream.Refused why) low = same_stream s
+  refused_stream true false (Ok new) low = absurd (omega (arith, low))
+  refused_stream true false (Err why) low = same_stream s
 
 pub refused_stream_stays : RefusedStreamStays
 unfolding RefusedStreamStays stream_placed

@@ -12,8 +12,7 @@ use Rattle.shaper.specs.declared.Judged.{Judged}
 use Rattle.records.specs.declared.Answer.{Answer}
 use Rattle.records.specs.declared.Answer.TheVariants.{Released, Discarded, Refused}
 use Rattle.calls.specs.Numbers.{set_up_number}
-use Rattle.calls.specs.declared.PlacedGroup.{PlacedGroup}
-use Rattle.calls.specs.declared.PlacedStream.{PlacedStream}
+use Rattle.calls.specs.declared.Placed.{Placed}
 use Rattle.lent.specs.InPlace.{received, Received}
 use Rattle.firmware.specs.declared.GroupRecord.{GroupRecord}
 use Rattle.firmware.specs.declared.StreamRecord.{StreamRecord}
@@ -61,11 +60,11 @@ time_after (Discarded T) t = T.0
 time_after (Refused why) t = t
 
 -- a set-up's number, and the record after it
-unfoldable pub group_told : PlacedGroup → GroupTold
-group_told p = record { number = set_up_number p.answer; group = group_record p.group }
+unfoldable pub group_told : Placed Group → GroupTold
+group_told p = record { number = set_up_number p.answer; group = group_record p.after }
 
-unfoldable pub stream_told : StreamRecord → PlacedStream → StreamTold
-stream_told s p = record { number = set_up_number p.answer; stream = stream_record s p.stream }
+unfoldable pub stream_told : StreamRecord → Placed Stream → StreamTold
+stream_told s p = record { number = set_up_number p.answer; stream = stream_record s p.after }
 
 -- a frame's number, the caller's time, and the records after it
 unfoldable pub frame_told : StreamRecord → ℕ → Judged → FrameTold

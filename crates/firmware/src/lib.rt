@@ -174,11 +174,9 @@ fn tell_group(id: u64, group: GroupRecord, class: u64, residence: u64) -> GroupT
     ensures { result ≡ group_told (group_placed id (group_of group) class residence) }
 {
     let placed = place_group(byte(id), group_of(group), byte(class), Ticks(residence));
-    let answer = placed.answer;
-    let after = placed.group;
     GroupTold {
-        number: set_up_number(answer),
-        group: group_record(after),
+        number: set_up_number(placed.answer),
+        group: group_record(placed.after),
     }
 }
 
@@ -200,11 +198,9 @@ fn tell_stream(
         Rate(rate),
         Bits(burst),
     );
-    let answer = placed.answer;
-    let after = placed.stream;
     StreamTold {
-        number: set_up_number(answer),
-        stream: stream_record(stream, after),
+        number: set_up_number(placed.answer),
+        stream: stream_record(stream, placed.after),
     }
 }
 

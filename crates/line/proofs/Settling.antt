@@ -33,7 +33,7 @@ use Rattle.bridge.specs.Tables.{no_group, no_stream, group_at, stream_at}
 use Rattle.quantity.specs.Ranges.{place_of}
 use Rattle.bridge.specs.Calls.{frame_stored, frame_called}
 use Rattle.bridge.specs.declared.Bridge.{Bridge}
-use Rattle.bridge.specs.declared.Framed.{Framed}
+use Rattle.bridge.specs.Calls.{Framed}
 use Rattle.bridge.proofs.Views.{JudgedFrame, frame_view}
 use Rattle.line.specs.Run.{handed, entered, settled}
 use Rattle.line.specs.Firsts.{Enterable}

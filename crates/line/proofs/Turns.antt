@@ -31,7 +31,7 @@ use Rattle.bridge.specs.Tables.{no_group, no_stream}
 use Rattle.calls.specs.Calls.{judged_at}
 use Rattle.bridge.specs.Calls.{frame_called}
 use Rattle.bridge.specs.declared.Bridge.{Bridge}
-use Rattle.bridge.specs.declared.Framed.{Framed}
+use Rattle.bridge.specs.Calls.{Framed}
 use Rattle.bridge.proofs.Tables.{frame_call}
 use Rattle.event.specs.Next.{next_event, step_for}
 use Rattle.event.specs.declared.Stop.{Stop}

@@ -22,7 +22,7 @@ use Rattle.places.specs.declared.Picked.TheVariants.{Leaves, Nothing, Refused as
 use Rattle.bridge.specs.Tables.{group_at, stream_at}
 use Rattle.bridge.specs.Calls.{frame_called}
 use Rattle.bridge.specs.declared.Bridge.{Bridge}
-use Rattle.bridge.specs.declared.Framed.{Framed}
+use Rattle.bridge.specs.Calls.{Framed}
 use Rattle.event.specs.Next.{next_event, step_for}
 use Rattle.event.specs.declared.Stop.{Stop}
 use Rattle.event.specs.declared.Stop.TheVariants.{Done, BudgetSpent, TooLate, PicksFull, Refused}

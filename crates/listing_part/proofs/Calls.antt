@@ -19,20 +19,19 @@ use Rattle.calls.specs.Numbers.{set_up_number}
 use Rattle.bridge.specs.Calls.{group_called, stream_called, frame_called}
 use Rattle.bridge.specs.History.{Call, group, stream, frame, reply, after_call}
 use Rattle.bridge.specs.declared.Bridge.{Bridge}
-use Rattle.calls.specs.declared.SetUp.{SetUp}
-use Rattle.calls.specs.declared.SetUp.TheVariants as set_up
-use Rattle.calls.specs.declared.PlacedGroup.{PlacedGroup}
-use Rattle.calls.specs.declared.PlacedStream.{PlacedStream}
-use Rattle.bridge.specs.declared.BridgeSetUp.{BridgeSetUp}
-use Rattle.bridge.specs.declared.Framed.{Framed}
+use Rattle.calls.specs.declared.Placed.{Placed}
+use Rattle.bridge.specs.Calls.{BridgeSetUp}
+use Rattle.bridge.specs.Calls.{Framed}
 use Rattle.bridge.proofs.Tables.{group_call, stream_call, frame_call}
 use Rattle.listing_text.specs.Lines.{values_of}
 use Rattle.quantity.proofs.Refusals.{refusal_number}
 use Rattle.listing_part.specs.Steps.{reply_of, set_up_answer, shown_of, frame_answer, stream_of, group_of, group_carried, stream_carried, frame_carried, carried_out}
 use Rattle.listing_part.specs.declared.Carried.{Carried}
+use Rattle.std.proofs.Common.{Result, Ok, Err}
+use Rattle.quantity.specs.declared.Refusal.{Refusal}
 
-module _ (b : Bridge) (i c M p : ℕ) (e : p ≡ place_of GroupId i) (x : PlacedGroup) (y : x ≡ group_placed i (get_or b.groups p no_group) c M) where
-  group_after : record { groups = set b.groups p x.group; streams = b.streams } ≡ after_call b (group i c M)
+module _ (b : Bridge) (i c M p : ℕ) (e : p ≡ place_of GroupId i) (x : Placed Group) (y : x ≡ group_placed i (get_or b.groups p no_group) c M) where
+  group_after : record { groups = set b.groups p x.after; streams = b.streams } ≡ after_call b (group i c M)
   unfolding after_call
   group_after = ap (λ (s : BridgeSetUp). s.bridge) (group_call b i c M p e x y)
 
@@ -41,8 +40,8 @@ module _ (b : Bridge) (i c M p : ℕ) (e : p ≡ place_of GroupId i) (x : Placed
   group_replies =
       ap (λ (s : BridgeSetUp). record { number = set_up_number s.answer; values = [] }) (group_call b i c M p e x y)
 
-module _ (b : Bridge) (i k r u p q : ℕ) (e : p ≡ place_of StreamId i) (f : q ≡ place_of GroupId k) (x : PlacedStream) (y : x ≡ stream_placed i (get_or b.streams p no_stream) k (get_or b.groups q no_group) r u) where
-  stream_after : record { groups = b.groups; streams = set b.streams p x.stream } ≡ after_call b (stream i k r u)
+module _ (b : Bridge) (i k r u p q : ℕ) (e : p ≡ place_of StreamId i) (f : q ≡ place_of GroupId k) (x : Placed Stream) (y : x ≡ stream_placed i (get_or b.streams p no_stream) k (get_or b.groups q no_group) r u) where
+  stream_after : record { groups = b.groups; streams = set b.streams p x.after } ≡ after_call b (stream i k r u)
   unfolding after_call
   stream_after = ap (λ (s : BridgeSetUp). s.bridge) (stream_call b i k r u p q e f x y)
 
@@ -80,11 +79,11 @@ module _ (b : Bridge) (call : Call) (p q s k : ℕ) (e : p ≡ place_of StreamId
   unfolding stored stream_of group_of group_carried stream_carried frame_carried carried_out
   stored_is (group i c M) g h =
       let z = group_placed i (get_or b.groups q no_group) c M in
-      ap (λ (ss : List Stream). record { groups = set b.groups q z.group; streams = ss }) (set-get_or b.streams p no_stream)
+      ap (λ (ss : List Stream). record { groups = set b.groups q z.after; streams = ss }) (set-get_or b.streams p no_stream)
       ∙ group_after b i c M q h z refl
   stored_is (stream i j r u) g h =
       let z = stream_placed i (get_or b.streams p no_stream) j (get_or b.groups q no_group) r u in
-      ap (λ (gs : List Group). record { groups = gs; streams = set b.streams p z.stream }) (set-get_or b.groups q no_group)
+      ap (λ (gs : List Group). record { groups = gs; streams = set b.streams p z.after }) (set-get_or b.groups q no_group)
       ∙ stream_after b i j r u p q g h z refl
   stored_is (frame i n A) g h = frame_after b i n A p q g h (judged_at i (get_or b.streams p no_stream) (get_or b.groups q no_group) n A) refl
 
@@ -105,10 +104,10 @@ module _ (b : Bridge) (call : Call) (p q s k : ℕ) (e : p ≡ place_of StreamId
 
 -- ---- the number returned has at most three digits
 
-set_up_small : (a : SetUp) → set_up_number a < 256
+set_up_small : (a : Result (Unit {0}) Refusal) → set_up_number a < 256
 unfolding set_up_number
-set_up_small set_up.Done = omega arith
-set_up_small (set_up.Refused why) = (refusal_number why).1
+set_up_small (Ok tt) = omega arith
+set_up_small (Err why) = (refusal_number why).1
 
 frame_small : (a : Answer) → answer_number a < 256
 unfolding answer_number

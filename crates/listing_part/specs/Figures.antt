@@ -2,7 +2,7 @@
 -- The bytes stand in reader's figures, a record to a line; here stand the characters of each line of the listing.
 use Rattle.std.specs.Prelude.{ℕ, ◌≡◌, refl, List, [], ◌∷◌, ◌++◌}
 use Rattle.bridge.specs.Calls.{group_called, group_stored, stream_called, stream_stored, frame_called, frame_stored}
-use Rattle.calls.specs.Calls.{group_placed, group_taken, stream_placed, stream_taken, judged_at}
+use Rattle.calls.specs.Calls.{group_placed, taken, stream_placed, judged_at}
 use Rattle.bridge.specs.History.{reply, after_call}
 use Rattle.calls.specs.Numbers.{set_up_number}
 use Rattle.bridge.specs.Tables.{group_at, stream_at, with_group, with_stream, fresh_bridge}
@@ -51,7 +51,7 @@ last_line = 101 ∷ 110 ∷ 100 ∷ 32 ∷ 53 ∷ 10 ∷ []
 
 pub example : listing example_file
     ≡ line_1 ++ (line_2 ++ (line_3 ++ (line_4 ++ (line_5 ++ last_line))))
-unfolding listing_of record_lines ending end_line record_line line_of column call_of reply after_call group_called group_stored group_placed group_taken stream_called stream_stored stream_placed stream_taken frame_called frame_stored judged_at group_at stream_at with_group with_stream fresh_bridge set_up_number group_set_up stream_set_up fresh_stream fresh_group judged after_tests tested answer_number answer_values above_burst sound sound_group sound_regulator in_range process_frame settled discarded released eligibility_time earliest after_release E_first S F E_after exactly moment_of rounded_up charged_bits contents_from answers onwards read_at read_left read_marked marked_among kinds is_mark read_fields field_numbers number total size digit last_digits fewest digit_count decimal
+unfolding listing_of record_lines ending end_line record_line line_of column call_of reply after_call group_called group_stored group_placed taken stream_called stream_stored stream_placed frame_called frame_stored judged_at group_at stream_at with_group with_stream fresh_bridge set_up_number group_set_up stream_set_up fresh_stream fresh_group judged after_tests tested answer_number answer_values above_burst sound sound_group sound_regulator in_range process_frame settled discarded released eligibility_time earliest after_release E_first S F E_after exactly moment_of rounded_up charged_bits contents_from answers onwards read_at read_left read_marked marked_among kinds is_mark read_fields field_numbers number total size digit last_digits fewest digit_count decimal
 example = refl
 
 pub empty_file : listing [] ≡ 101 ∷ 110 ∷ 100 ∷ 32 ∷ 48 ∷ 10 ∷ []

@@ -10,9 +10,7 @@ use Rattle.shaper.specs.declared.Judged.{Judged}
 use Rattle.bridge.specs.History.{Call, group, stream, frame, Reply}
 use Rattle.calls.specs.Numbers.{set_up_number}
 use Rattle.calls.specs.Calls.{group_placed, stream_placed, judged_at}
-use Rattle.calls.specs.declared.SetUp.{SetUp}
-use Rattle.calls.specs.declared.PlacedGroup.{PlacedGroup}
-use Rattle.calls.specs.declared.PlacedStream.{PlacedStream}
+use Rattle.calls.specs.declared.Placed.{Placed}
 use Rattle.tablefile.specs.declared.Reading.{Reading}
 use Rattle.tablefile.specs.declared.Reading.TheVariants.{Found, NothingLeft, Refused}
 use Rattle.listing_text.specs.Lines.{values_of}
@@ -23,13 +21,15 @@ use Rattle.listing_part.specs.Parts.{may_go_on}
 use Rattle.listing_part.specs.declared.Step.{Step}
 use Rattle.listing_part.specs.declared.Step.TheVariants.{Ends, Goes}
 use Rattle.listing_part.specs.declared.Carried.{Carried}
+use Rattle.std.specs.declared.result.Result.{Result}
+use Rattle.quantity.specs.declared.Refusal.{Refusal}
 
 -- ---- answers
 
 unfoldable pub reply_of : Answered → Reply
 reply_of a = record { number = a.number; values = values_of a.time }
 
-unfoldable pub set_up_answer : SetUp → Answered
+unfoldable pub set_up_answer : Result (Unit {0}) Refusal → Answered
 set_up_answer a = record { number = set_up_number a; time = Dash }
 
 unfoldable pub shown_of : Answer → Shown
@@ -61,11 +61,11 @@ group_of (stream i k r u) home = k
 group_of (frame i n A) home = home
 
 -- a group's set-up leaves the stream s, a stream's the group g
-unfoldable pub group_carried : Stream → PlacedGroup → Carried
-group_carried s x = record { answer = set_up_answer x.answer; stream = s; group = x.group }
+unfoldable pub group_carried : Stream → Placed Group → Carried
+group_carried s x = record { answer = set_up_answer x.answer; stream = s; group = x.after }
 
-unfoldable pub stream_carried : Group → PlacedStream → Carried
-stream_carried g x = record { answer = set_up_answer x.answer; stream = x.stream; group = g }
+unfoldable pub stream_carried : Group → Placed Stream → Carried
+stream_carried g x = record { answer = set_up_answer x.answer; stream = x.after; group = g }
 
 unfoldable pub frame_carried : Judged → Carried
 frame_carried x = record { answer = frame_answer x.answer; stream = x.stream; group = x.group }

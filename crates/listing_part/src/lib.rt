@@ -10,9 +10,8 @@ ghost use Rattle.listing_part.specs.Parts.{part_listed};
 ghost use Rattle.listing_part.specs.Steps.{set_up_answer, frame_answer, next_step, stream_of, group_of, group_carried, stream_carried, frame_carried, carried_out};
 
 use bridge::Bridge;
-use calls::SetUp;
 use listing_text::{Answered, Shown};
-use quantity::{Bits, Item, Rate, Ticks};
+use quantity::{Bits, Item, Rate, Refusal, Ticks};
 use records::{Answer, Group, Stream};
 use tablefile::{Reading, Record};
 
@@ -48,7 +47,7 @@ pub struct Listed {
 
 // ---- what a record does, and what it shows
 
-fn set_up_answer(answer: SetUp) -> Answered
+fn set_up_answer(answer: Result<(), Refusal>) -> Answered
     ensures { result ≡ set_up_answer answer }
 {
     Answered {
@@ -126,13 +125,10 @@ fn carry_group(id: u8, class: u8, residence: Ticks, stream: Stream, group: Group
     ensures { result ≡ group_carried stream (group_placed id group class residence.0) }
 {
     let placed = calls::place_group(id, group, class, residence);
-    let after = placed.group;
-    let outcome = placed.answer;
-    let answer = set_up_answer(outcome);
     Carried {
-        answer,
+        answer: set_up_answer(placed.answer),
         stream,
-        group: after,
+        group: placed.after,
     }
 }
 
@@ -147,12 +143,9 @@ fn carry_stream(
     ensures { result ≡ stream_carried group (stream_placed id stream in_group group rate.0 burst.0) }
 {
     let placed = calls::place_stream(id, stream, in_group, group, rate, burst);
-    let after = placed.stream;
-    let outcome = placed.answer;
-    let answer = set_up_answer(outcome);
     Carried {
-        answer,
-        stream: after,
+        answer: set_up_answer(placed.answer),
+        stream: placed.after,
         group,
     }
 }
@@ -161,14 +154,10 @@ fn carry_frame(id: u8, octets: u16, arrival: Ticks, stream: Stream, group: Group
     ensures { result ≡ frame_carried (judged_at id stream group octets arrival.0) }
 {
     let judged = calls::judge_at(id, stream, group, octets, arrival);
-    let stream_after = judged.stream;
-    let group_after = judged.group;
-    let outcome = judged.answer;
-    let answer = frame_answer(outcome);
     Carried {
-        answer,
-        stream: stream_after,
-        group: group_after,
+        answer: frame_answer(judged.answer),
+        stream: judged.stream,
+        group: judged.group,
     }
 }
 
@@ -203,11 +192,9 @@ fn carry_out(given: Record, stream: Stream, group: Group) -> Carried
 // ---- the listing
 
 // Carries out the records of a part of a file, from its start on, and puts their lines at the front of `out`.
-pub fn list_part(bytes: &[u8], bridge: Bridge, count: u64, out: &mut [u8]) -> Listed
+pub fn list_part(bytes: &[u8], mut bridge: Bridge, count: u64, out: &mut [u8]) -> Listed
     ensures { record { listed = result; out = out.new } ≡ part_listed bytes.now bridge count out.old }
 {
-    let mut groups = bridge.groups;
-    let mut streams = bridge.streams;
     let mut number = count;
     let mut place: usize = 0;
     let mut written: usize = 0;
@@ -217,7 +204,7 @@ pub fn list_part(bytes: &[u8], bridge: Bridge, count: u64, out: &mut [u8]) -> Li
         match step {
             Step::Ends(why) => {
                 return Listed {
-                    bridge: Bridge { groups, streams },
+                    bridge,
                     count: number,
                     place,
                     reading: why,
@@ -226,21 +213,18 @@ pub fn list_part(bytes: &[u8], bridge: Bridge, count: u64, out: &mut [u8]) -> Li
             }
             Step::Goes { record, next } => {
                 let at = quantity::place_of(Item::StreamId, stream_of(record));
-                let stream = streams[at];
+                let stream = bridge.streams[at];
                 let of = quantity::place_of(Item::GroupId, group_of(record, stream.group));
-                let carried = carry_out(record, stream, groups[of]);
-                let stream_after = carried.stream;
-                let group_after = carried.group;
-                let answer = carried.answer;
-                groups[of] = group_after;
-                streams[at] = stream_after;
+                let carried = carry_out(record, stream, bridge.groups[of]);
+                bridge.groups[of] = carried.group;
+                bridge.streams[at] = carried.stream;
                 number += 1;
                 written = listing_text::put_line(
                     out,
                     written,
                     number,
                     tablefile::letters(record),
-                    answer,
+                    carried.answer,
                 );
                 place = next;
                 continue;

@@ -21,7 +21,7 @@ use Rattle.bridge.specs.Calls.{frame_stored, frame_called}
 use Rattle.bridge.specs.History.{Call, group, stream, frame, after_call, Frame, outcome_of, outcome}
 use Rattle.bridge.specs.History as history
 use Rattle.bridge.specs.declared.Bridge.{Bridge}
-use Rattle.bridge.specs.declared.Framed.{Framed}
+use Rattle.bridge.specs.Calls.{Framed}
 use Rattle.bridge.proofs.Views.{KeptGroup, NewGroup, group_view, KeptStream, NewStream, stream_view, KeptFrame, JudgedFrame, frame_view}
 
 -- ---- the records after a release and after a discard

@@ -16,8 +16,8 @@ use Rattle.bridge.specs.Calls.{frame_stored}
 use Rattle.calls.specs.Numbers.{set_up_number}
 use Rattle.bridge.specs.History.{Call, group, stream, frame, reply, replies, after_call}
 use Rattle.bridge.specs.declared.Bridge.{Bridge}
-use Rattle.bridge.specs.declared.BridgeSetUp.{BridgeSetUp}
-use Rattle.bridge.specs.declared.Framed.{Framed}
+use Rattle.bridge.specs.Calls.{BridgeSetUp}
+use Rattle.bridge.specs.Calls.{Framed}
 use Rattle.bridge.proofs.Views.{KeptGroup, NewGroup, group_view, KeptStream, NewStream, stream_view, KeptFrame, JudgedFrame, frame_view}
 use Rattle.promises.specs.Demand1.{OneFixedAnswer, RefusedChangesNothing, RecordsStaySound, NoneUnsound, NeverUnsound}
 use Rattle.promises.proofs.SoundBridges.{SoundBridge, sound_fresh, sound_call, sound_after, sound_reply}

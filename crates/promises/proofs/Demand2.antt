@@ -12,8 +12,6 @@ use Rattle.quantity.specs.declared.Refusal.{Refusal}
 use Rattle.quantity.specs.declared.Refusal.TheVariants.{NoStream}
 use Rattle.records.specs.declared.Answer.{Answer}
 use Rattle.admission.specs.Tests.{tested}
-use Rattle.admission.specs.declared.Tested.{Tested}
-use Rattle.admission.specs.declared.Tested.TheVariants.{Refused, Charged}
 use Rattle.shaper.specs.Numbers.{refused, after_tests, judged}
 use Rattle.calls.specs.Calls.{judged_at}
 use Rattle.bridge.specs.Calls.{frame_stored, frame_called}
@@ -21,6 +19,8 @@ use Rattle.bridge.specs.Tables.{group_at, stream_at, with_group}
 use Rattle.bridge.proofs.Tables.{same_group, same_stream}
 use Rattle.reader.proofs.RoundTrip.{reads_back, writes_back, file_reads_back, file_writes_back}
 use Rattle.promises.specs.Demand2.{frame_tested, by_tests, ByProcessFrame, EachByProcessFrame, ProcessFrameThroughout, RoundTrips}
+use Rattle.std.proofs.Common.{Result, Ok, Err}
+use Rattle.quantity.specs.declared.Bits.{Bits}
 
 -- what was there is stored back: the tables stay
 stored_back : (b : Bridge) (i : ℕ) (why : Refusal) → let k = (stream_at b i).group in frame_stored b i k (refused (stream_at b i) (group_at b k) why) ≡ record { answer = Answer.Refused why; bridge = b }
@@ -35,10 +35,10 @@ module _ (b : Bridge) (i n A : ℕ) where
   k = (stream_at b i).group
 
   -- by what the tests of the records give
-  after_tests_law : (x : Tested) → frame_stored b i k (after_tests (stream_at b i) (group_at b k) A x) ≡ by_tests b i A x
+  after_tests_law : (x : Result Bits Refusal) → frame_stored b i k (after_tests (stream_at b i) (group_at b k) A x) ≡ by_tests b i A x
   unfolding after_tests by_tests k
-  after_tests_law (Refused why) = stored_back b i why
-  after_tests_law (Charged L) = refl
+  after_tests_law (Err why) = stored_back b i why
+  after_tests_law (Ok L) = refl
 
   by_process_frame : ByProcessFrame b i n A
   unfolding ByProcessFrame frame_called frame_tested judged_at judged by_tests k
@@ -47,7 +47,7 @@ module _ (b : Bridge) (i n A : ℕ) where
       go : (t : Bool)
           → frame_stored b i (stream_at b i).group
           (cond (not t) (refused (stream_at b i) (group_at b (stream_at b i).group) NoStream) (judged (stream_at b i) (group_at b (stream_at b i).group) n A))
-          ≡ by_tests b i A (cond (not t) (Refused NoStream) (tested (stream_at b i) (group_at b (stream_at b i).group) n A))
+          ≡ by_tests b i A (cond (not t) (Err NoStream) (tested (stream_at b i) (group_at b (stream_at b i).group) n A))
       go true = after_tests_law (tested (stream_at b i) (group_at b (stream_at b i).group) n A)
       go false = stored_back b i NoStream
 

@@ -17,7 +17,7 @@ use Rattle.records.specs.Numbers.{is_set_up, answer_number}
 use Rattle.shaper.specs.Numbers.{after_tests, judged}
 use Rattle.admission.specs.Tests.{above_burst, tested}
 use Rattle.bridge.specs.Tables.{fresh_bridge, group_at, stream_at, with_group, with_stream}
-use Rattle.calls.specs.Calls.{group_taken, group_placed, stream_taken, stream_placed, judged_at}
+use Rattle.calls.specs.Calls.{taken, group_placed, stream_placed, judged_at}
 use Rattle.bridge.specs.Calls.{group_stored, group_called, stream_stored, stream_called, frame_stored, frame_called}
 use Rattle.calls.specs.Numbers.{set_up_number}
 use Rattle.bridge.specs.History.{group, frame, after_call, after, outcome_of, outcome, outcomes, history, bridge_after, reply}
@@ -44,7 +44,7 @@ pub record Given : Type 0 where
   pub before : (group_at fresh_bridge 0).used ≡ false
 
 pub given : Given
-unfolding outcomes outcome outcome_of after_call fresh_bridge group_at stream_at with_group with_stream group_called group_stored group_placed group_taken stream_called stream_stored stream_placed stream_taken frame_called frame_stored judged_at group_set_up stream_set_up fresh_group fresh_stream judged after_tests tested above_burst sound sound_group sound_regulator in_range process_frame settled discarded released eligibility_time earliest after_release E_first S F E_after exactly moment_of rounded_up charged_bits after burst_of reply set_up_number answer_number
+unfolding outcomes outcome outcome_of after_call fresh_bridge group_at stream_at with_group with_stream group_called group_stored group_placed taken stream_called stream_stored stream_placed frame_called frame_stored judged_at group_set_up stream_set_up fresh_group fresh_stream judged after_tests tested above_burst sound sound_group sound_regulator in_range process_frame settled discarded released eligibility_time earliest after_release E_first S F E_after exactly moment_of rounded_up charged_bits after burst_of reply set_up_number answer_number
 given = record {
   two = refl;
   three = refl;

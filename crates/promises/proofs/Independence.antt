@@ -21,8 +21,8 @@ use Rattle.bridge.specs.Calls.{frame_stored, frame_called}
 use Rattle.calls.specs.Calls.{judged_at}
 use Rattle.bridge.specs.History.{Call, group, stream, frame, reply, after_call, after, bridge_after, Frame, Outcome, released, discarded, outcome_of, outcome}
 use Rattle.bridge.specs.declared.Bridge.{Bridge}
-use Rattle.bridge.specs.declared.BridgeSetUp.{BridgeSetUp}
-use Rattle.bridge.specs.declared.Framed.{Framed}
+use Rattle.bridge.specs.Calls.{BridgeSetUp}
+use Rattle.bridge.specs.Calls.{Framed}
 use Rattle.bridge.proofs.Views.{KeptGroup, NewGroup, group_makes, group_view, KeptStream, NewStream, stream_makes, stream_view, frame_unset}
 use Rattle.promises.specs.Independence.{foreign, without_others, answers, Independence}
 use Rattle.promises.proofs.Places.{sized_stream, streams_stay, groups_stay, stream_case, group_case}

@@ -19,19 +19,19 @@ use Rattle.tablefile.specs.declared.Reading.TheVariants.{Found, NothingLeft, Ref
 use Rattle.reader.specs.Reader.{read_at}
 use Rattle.reader.proofs.OneRecord.{found_length}
 use Rattle.reader.proofs.RoundTrip.{reads_back, writes_back}
-use Rattle.tablefile.specs.declared.Written.TheVariants.{Bytes, Refused}
 use Rattle.writer.specs.Writer.{write_of, write_to}
 use Rattle.promises.specs.RoundTrip.{WrittenIsRead, ReadIsWritten, RefusedStays, NothingWithoutRecord}
+use Rattle.std.proofs.Common.{Ok, Err}
 
 by_room : (r : Record) → Fits r → (part : List ℕ) (n : ℕ) (t : Bool) → ltb (length part) (length (bytes_of r)) ≡ t
-    → (write_to r part).answer ≡ Bytes n → read_at (write_to r part).part 0 ≡ Found r n
+    → (write_to r part).answer ≡ Ok n → read_at (write_to r part).part 0 ≡ Found r n
 unfolding write_to write_of
 by_room r h part n true t e =
-    let refused : Refused NoRoom ≡ Bytes n = rw t at e in
+    let refused : Err NoRoom ≡ Ok n = rw t at e in
     let z : ◌≡◌ {A = ℕ} 0 1 = cc in
     absurd (omega arith)
 by_room r h part n false t e =
-    let counted : Bytes (length (bytes_of r)) ≡ Bytes n = rw t at e in
+    let counted : Ok (length (bytes_of r)) ≡ Ok n = rw t at e in
     let count : length (bytes_of r) ≡ n = cc in
     rw t (reads_back r h [] (drop (length (bytes_of r)) part) ∙ ap (Found r) (zero-add (length (bytes_of r)) ∙ count))
 

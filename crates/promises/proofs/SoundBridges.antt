@@ -28,8 +28,8 @@ use Rattle.bridge.specs.Calls.{frame_stored}
 use Rattle.calls.specs.Numbers.{set_up_number}
 use Rattle.bridge.specs.History.{Call, group, stream, frame, after_call, after, reply}
 use Rattle.bridge.specs.declared.Bridge.{Bridge}
-use Rattle.bridge.specs.declared.BridgeSetUp.{BridgeSetUp}
-use Rattle.bridge.specs.declared.Framed.{Framed}
+use Rattle.bridge.specs.Calls.{BridgeSetUp}
+use Rattle.bridge.specs.Calls.{Framed}
 use Rattle.bridge.proofs.Views.{KeptGroup, NewGroup, group_view, KeptStream, NewStream, stream_view, KeptFrame, JudgedFrame, frame_view}
 use Rattle.promises.proofs.Places.{Sized, sized_fresh, sized_group, sized_stream, streams_stay, groups_stay, stream_case, group_case, fresh_group_law, fresh_stream_law}
 use Rattle.promises.proofs.Calls.{stream_after, group_released, group_discarded, Step, stays, group_made, stream_made, let_go, dropped, step}

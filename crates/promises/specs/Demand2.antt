@@ -1,29 +1,30 @@
 -- Demand 2: every eligibility time and discard is what the standard's ProcessFrame gives with exact fractions, from buckets that start full.
 -- b is a bridge, i a stream, n a frame's octets, A its arrival. The P rows are shaper's `figures`.
-use Rattle.std.specs.Prelude.{ℕ, ◌≡◌, List, [], ◌∷◌, cond, not}
+use Rattle.std.specs.Prelude.{ℕ, ◌≡◌, List, [], ◌∷◌, cond, not, Ok, Err}
 use Rattle.quantity.specs.Ranges.{in_range}
 use Rattle.quantity.specs.declared.Item.TheVariants.{StreamId}
 use Rattle.quantity.specs.declared.Refusal.TheVariants.{NoStream}
 use Rattle.admission.specs.Tests.{tested}
-use Rattle.admission.specs.declared.Tested.{Tested}
-use Rattle.admission.specs.declared.Tested.TheVariants.{Refused, Charged}
 use Rattle.shaper.specs.Frame.{process_frame}
 use Rattle.records.specs.declared.Answer.{Answer}
 use Rattle.bridge.specs.Tables.{fresh_bridge, group_at, stream_at}
 use Rattle.bridge.specs.Calls.{frame_stored, frame_called}
 use Rattle.bridge.specs.History.{Call, group, stream, frame, after_call}
 use Rattle.bridge.specs.declared.Bridge.{Bridge}
-use Rattle.bridge.specs.declared.Framed.{Framed}
+use Rattle.bridge.specs.Calls.{Framed}
 use Rattle.reader.specs.RoundTrip.{ReadsBack, WritesBack, FileReadsBack, FileWritesBack}
+use Rattle.std.specs.declared.result.Result.{Result}
+use Rattle.quantity.specs.declared.Bits.{Bits}
+use Rattle.quantity.specs.declared.Refusal.{Refusal}
 
 -- the tests of a frame of stream i, in their order: 10 where there is no such stream; else those of the stream's record with its group's
-unfoldable pub frame_tested : Bridge → ℕ → ℕ → ℕ → Tested
-frame_tested b i n A = cond (not (in_range StreamId i)) (Refused NoStream) (tested (stream_at b i) (group_at b (stream_at b i).group) n A)
+unfoldable pub frame_tested : Bridge → ℕ → ℕ → ℕ → Result Bits Refusal
+frame_tested b i n A = cond (not (in_range StreamId i)) (Err NoStream) (tested (stream_at b i) (group_at b (stream_at b i).group) n A)
 
 -- by what they give: the first refusal that applies, and all records stay; or the answer and the two records are ProcessFrame's, with the frame's charged bits
-unfoldable pub by_tests : Bridge → ℕ → ℕ → Tested → Framed
-by_tests b i A (Refused why) = record { answer = Answer.Refused why; bridge = b }
-by_tests b i A (Charged L) = frame_stored b i (stream_at b i).group (process_frame (stream_at b i) (group_at b (stream_at b i).group) L.0 A)
+unfoldable pub by_tests : Bridge → ℕ → ℕ → Result Bits Refusal → Framed
+by_tests b i A (Err why) = record { answer = Answer.Refused why; bridge = b }
+by_tests b i A (Ok L) = frame_stored b i (stream_at b i).group (process_frame (stream_at b i) (group_at b (stream_at b i).group) L.0 A)
 
 unfoldable pub ByProcessFrame : Bridge → ℕ → ℕ → ℕ → Type 0
 ByProcessFrame b i n A = frame_called b i n A ≡ by_tests b i A (frame_tested b i n A)

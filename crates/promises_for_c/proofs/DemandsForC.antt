@@ -12,7 +12,7 @@ use Rattle.bridge.specs.Tables.{fresh_bridge, group_at, stream_at}
 use Rattle.bridge.specs.History.{Call, group, stream, frame, Reply, reply, replies, after_call, after, Outcome, outcome, outcomes, history, bridge_after}
 use Rattle.bridge.specs.Spans.{Sent, burst_at, rate_at, eligible, arriving, WithinBurstAndRate}
 use Rattle.bridge.specs.declared.Bridge.{Bridge}
-use Rattle.bridge.specs.declared.Framed.{Framed}
+use Rattle.bridge.specs.Calls.{Framed}
 use Rattle.firmware.specs.Firmware.{group_of, stream_of}
 use Rattle.firmware.specs.declared.StreamRecord.{StreamRecord}
 use Rattle.promises.specs.Demand1 as demand1

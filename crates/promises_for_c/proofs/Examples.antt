@@ -14,7 +14,7 @@ use Rattle.setup.specs.SetUp.{fresh_group, fresh_stream, group_set_up, stream_se
 use Rattle.admission.specs.Tests.{above_burst, tested}
 use Rattle.shaper.specs.Frame.{S, F, E_after, earliest, after_release, eligibility_time, released, settled, process_frame, burst_of}
 use Rattle.shaper.specs.Numbers.{after_tests, judged}
-use Rattle.calls.specs.Calls.{group_taken, group_placed, stream_taken, stream_placed}
+use Rattle.calls.specs.Calls.{taken, group_placed, stream_placed}
 use Rattle.bridge.specs.Tables.{stream_at}
 use Rattle.bridge.specs.History.{Call, Outcome, history}
 use Rattle.bridge.specs.Spans.{arriving, WithinBurstAndRate}
@@ -43,7 +43,7 @@ pub record Given : Type 0 where
   pub number : number zeroed own ≡ 10
 
 given : Given
-unfolding zeroed group_record_at stream_record_at group_lent stream_lent group_written stream_written group_given stream_given frame_given number after_c judged_by judged_in_c mislent on_bridge after_all calls_of judged_of group_of group_record stream_of rewritten stream_record stream_records time_after group_told stream_told frame_told lent_after frame_received received judged_in ready unreadiness answer_number group_placed group_taken stream_placed stream_taken group_set_up stream_set_up fresh_group fresh_stream judged after_tests tested above_burst sound sound_group sound_regulator process_frame settled released eligibility_time earliest after_release E_first S F E_after exactly moment_of rounded_up charged_bits in_range place_of
+unfolding zeroed group_record_at stream_record_at group_lent stream_lent group_written stream_written group_given stream_given frame_given number after_c judged_by judged_in_c mislent on_bridge after_all calls_of judged_of group_of group_record stream_of rewritten stream_record stream_records time_after group_told stream_told frame_told lent_after frame_received received judged_in ready unreadiness answer_number group_placed taken stream_placed group_set_up stream_set_up fresh_group fresh_stream judged after_tests tested above_burst sound sound_group sound_regulator process_frame settled released eligibility_time earliest after_release E_first S F E_after exactly moment_of rounded_up charged_bits in_range place_of
 given = record { two_calls = refl; three_calls = refl; three_judged_is = refl; with_its_group = refl; with_another = refl; number = refl }
 
 -- ---- two frames at once conform

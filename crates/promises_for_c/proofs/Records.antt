@@ -16,11 +16,10 @@ use Rattle.records.specs.declared.Stream.{Stream}
 use Rattle.records.specs.declared.Regulator.{Regulator}
 use Rattle.records.specs.declared.Regulator.TheVariants.{Unset, Bucket}
 use Rattle.setup.specs.SetUp.{fresh_stream, stream_set_up}
-use Rattle.setup.specs.declared.StreamSetUp.{StreamSetUp}
 use Rattle.shaper.specs.Frame.{burst_of, process_frame, eligibility_time, discarded, released}
 use Rattle.shaper.specs.declared.Judged.{Judged}
-use Rattle.calls.specs.Calls.{stream_placed, stream_taken}
-use Rattle.calls.specs.declared.PlacedStream.{PlacedStream}
+use Rattle.calls.specs.Calls.{stream_placed, taken}
+use Rattle.calls.specs.declared.Placed.{Placed}
 use Rattle.bridge.specs.Tables.{no_stream}
 use Rattle.lent.specs.InPlace.{judged_in, received}
 use Rattle.lent.specs.Steps.{ready}
@@ -30,6 +29,8 @@ use Rattle.firmware.specs.declared.StreamRecord.{StreamRecord}
 use Rattle.firmware.proofs.LentRecords.{same_stream, same_streams, one_rewritten}
 use Rattle.promises.proofs.Histories.{set_up_kept}
 use Rattle.promises_for_c.specs.Lent.{zeroed_stream}
+use Rattle.std.proofs.Common.{Result}
+use Rattle.quantity.specs.declared.Refusal.{Refusal}
 
 -- what holds of both holds of the chosen one
 choose : {A : Type 0} (P : A → Type 0) (t : Bool) (x y : A) → P x → P y → P (cond t x y)
@@ -85,11 +86,11 @@ module _ (s : StreamRecord) where
   kept_held = ap stream_of (same_stream s)
 
   -- of what a set-up leaves
-  pub placed_held : (i k : ℕ) (g : Group) (r u : ℕ) → Held (stream_placed i (stream_of s) k g r u).stream
-  unfolding stream_placed stream_set_up stream_taken fresh_stream
+  pub placed_held : (i k : ℕ) (g : Group) (r u : ℕ) → Held (stream_placed i (stream_of s) k g r u).after
+  unfolding stream_placed stream_set_up taken fresh_stream
   placed_held i k g r u =
-      let P : PlacedStream → Type 0 = λ x. Held x.stream in
-      let Q : StreamSetUp → Type 0 = λ y. Held (stream_taken (stream_of s) y).stream in
+      let P : Placed Stream → Type 0 = λ x. Held x.after in
+      let Q : Result Stream Refusal → Type 0 = λ y. Held (taken (stream_of s) y).after in
       choose P (not (in_range StreamId i)) _ _ kept_held
       (choose P (is_set_up (stream_of s).regulator) _ _ kept_held
       (choose Q (not (in_range GroupId k && g.used)) _ _ kept_held

@@ -24,8 +24,8 @@ use Rattle.calls.specs.Numbers.{set_up_number}
 use Rattle.bridge.specs.Tables.{no_stream, fresh_bridge, group_at, stream_at}
 use Rattle.bridge.specs.Calls.{group_called, stream_called, frame_called}
 use Rattle.bridge.specs.History.{reply, after_call, outcome, outcome_of, frame}
-use Rattle.bridge.specs.declared.BridgeSetUp.{BridgeSetUp}
-use Rattle.bridge.specs.declared.Framed.{Framed}
+use Rattle.bridge.specs.Calls.{BridgeSetUp}
+use Rattle.bridge.specs.Calls.{Framed}
 use Rattle.bridge.proofs.Tables.{group_call, stream_call}
 use Rattle.lent.specs.InPlace.{run_places, received, Received}
 use Rattle.lent.specs.Steps.{ready}
@@ -89,7 +89,7 @@ module _ (m : Memory) where
     same_group_call =
         let p = place_of GroupId i in
         let P = group_placed i (group_of (group_record_at m p)) c M in
-        ap (λ gs. record { answer = P.answer; bridge = record { groups = gs; streams = map stream_of m.streams } }) (map_set group_of m.groups p (group_record P.group) ∙ ap (set (map group_of m.groups) p) (group_held P.group))
+        ap (λ gs. record { answer = P.answer; bridge = record { groups = gs; streams = map stream_of m.streams } }) (map_set group_of m.groups p (group_record P.after) ∙ ap (set (map group_of m.groups) p) (group_held P.after))
         ∙ group_call (bridge_of m) i c M p refl P (ap (λ (g : Group). group_placed i g c M) (sym (group_at_law p)))
 
   module _ (i k r u : ℕ) where
@@ -101,7 +101,7 @@ module _ (m : Memory) where
         let s = stream_record_at m p in
         let g = group_of (group_record_at m q) in
         let P = stream_placed i (stream_of s) k g r u in
-        ap (λ ss. record { answer = P.answer; bridge = record { groups = map group_of m.groups; streams = ss } }) (map_set stream_of m.streams p (stream_record s P.stream) ∙ ap (set (map stream_of m.streams) p) (placed_held s i k g r u))
+        ap (λ ss. record { answer = P.answer; bridge = record { groups = map group_of m.groups; streams = ss } }) (map_set stream_of m.streams p (stream_record s P.after) ∙ ap (set (map stream_of m.streams) p) (placed_held s i k g r u))
         ∙ stream_call (bridge_of m) i k r u p q refl refl P (ap (λ (x : Stream). stream_placed i x k g r u) (sym (stream_at_law p)) ∙ ap (λ (x : Group). stream_placed i (get_or (bridge_of m).streams p no_stream) k x r u) (sym (group_at_law q)))
 
   -- ---- a frame

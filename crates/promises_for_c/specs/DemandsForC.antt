@@ -7,7 +7,7 @@ use Rattle.records.specs.Numbers.{answer_number, answer_values}
 use Rattle.bridge.specs.Tables.{fresh_bridge}
 use Rattle.bridge.specs.History.{replies, history, bridge_after}
 use Rattle.bridge.specs.Spans.{eligible, arriving, WithinBurstAndRate}
-use Rattle.bridge.specs.declared.Framed.{Framed}
+use Rattle.bridge.specs.Calls.{Framed}
 use Rattle.promises.specs.Demand1.{SoundRecords}
 use Rattle.promises.specs.Demand2.{frame_tested, by_tests}
 use Rattle.promises.specs.Demand3.{EligibleOnArrival, EachOf}

@@ -12,7 +12,7 @@ use Rattle.setup.specs.SetUp.{fresh_group, fresh_stream, group_set_up, stream_se
 use Rattle.admission.specs.Tests.{above_burst, tested}
 use Rattle.shaper.specs.Frame.{S, F, E_after, earliest, after_release, eligibility_time, released, settled, process_frame}
 use Rattle.shaper.specs.Numbers.{after_tests, judged}
-use Rattle.calls.specs.Calls.{group_taken, group_placed, stream_taken, stream_placed, judged_at}
+use Rattle.calls.specs.Calls.{taken, group_placed, stream_placed, judged_at}
 use Rattle.places.specs.Queue.{nothing, count_of, entry_at}
 use Rattle.places.specs.Places.{with_last, has_room, moved, closed, without, take_gives}
 use Rattle.firsts.specs.Firsts.{part, first_from, first_in, first_of, smaller, smallest_below, smallest_of}
@@ -47,7 +47,7 @@ pub record Given : Type 0 where
   pub number : step_number (tables_after (yard_steps [])) (run (at_once 3 2)) ≡ 28
 
 given : Given
-unfolding beginning ran_on frames_of after_step calls_of_step after_steps calls_of step_number entering_after entering_for entered_by entered_in sent_by sent_of entered_through frame_call frames_from entering_by entering_of entering step handed entered frame_at group_of settled_at arrived sending_ticks sent picked_at stopped onward run_for begun lists_fit line_fits start_of start_at started_by run_gives line-run.settled arrives_by at_candidate next_event arrival_step pick_step step_for stop_number nothing not_entered enter_gives with_last has_room all_sound class_sound every sound_at entry_sound in_range entry_at count_of pick_gives take_due take_gives without closed moved due_of due_below due_or first_of first_in first_from part smallest_of smallest_below smaller after_call outcome_of outcome outcomes fresh_bridge group_at stream_at with_group with_stream group_called group_stored group_placed group_taken stream_called stream_stored stream_placed stream_taken frame_called frame_stored judged_at group_set_up stream_set_up fresh_group fresh_stream judged after_tests tested above_burst sound sound_group sound_regulator process_frame settled released eligibility_time earliest after_release E_first S F E_after exactly moment_of rounded_up charged_bits
+unfolding beginning ran_on frames_of after_step calls_of_step after_steps calls_of step_number entering_after entering_for entered_by entered_in sent_by sent_of entered_through frame_call frames_from entering_by entering_of entering step handed entered frame_at group_of settled_at arrived sending_ticks sent picked_at stopped onward run_for begun lists_fit line_fits start_of start_at started_by run_gives line-run.settled arrives_by at_candidate next_event arrival_step pick_step step_for stop_number nothing not_entered enter_gives with_last has_room all_sound class_sound every sound_at entry_sound in_range entry_at count_of pick_gives take_due take_gives without closed moved due_of due_below due_or first_of first_in first_from part smallest_of smallest_below smaller after_call outcome_of outcome outcomes fresh_bridge group_at stream_at with_group with_stream group_called group_stored group_placed taken stream_called stream_stored stream_placed frame_called frame_stored judged_at group_set_up stream_set_up fresh_group fresh_stream judged after_tests tested above_burst sound sound_group sound_regulator process_frame settled released eligibility_time earliest after_release E_first S F E_after exactly moment_of rounded_up charged_bits
 given = record { calls = refl; judged = refl; entered = refl; calm_calls = refl; number = refl }
 
 -- ---- two frames at once conform

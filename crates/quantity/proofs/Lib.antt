@@ -1,4 +1,5 @@
 pub mod Booleans
 pub mod Ranges
+pub mod Order
 pub mod Charging
 pub mod Refusals

@@ -3,27 +3,30 @@
 // No record, no queue and no rule of judging lives here.
 #![tactic(auto)]
 
-ghost use Rattle.std.specs.Prelude.{◌≡◌};
+ghost use Rattle.std.specs.Prelude.{◌≡◌, ◌≤◌, false};
+ghost use Rattle.std.specs.Range.{range_inclusive_start, range_inclusive_end, range_inclusive_exhausted};
 ghost use Rattle.quantity.specs.Ranges.{least_of, most_of, in_range, place_of};
 ghost use Rattle.quantity.specs.Kinds.{bits};
 ghost use Rattle.quantity.specs.Charge.{charged_bits};
 ghost use Rattle.quantity.specs.Numbers.{number_of};
 
+use std::ops::RangeInclusive;
+
 // Whole nanoseconds.
-#[derive(Clone, Copy, Drop)]
+#[derive(Clone, Copy, Debug, PartialEq, Eq, PartialOrd, Ord)]
 pub struct Ticks(pub u64);
 
-#[derive(Clone, Copy, Drop)]
+#[derive(Clone, Copy, Debug, PartialEq, Eq, PartialOrd, Ord)]
 pub struct Bits(pub u64);
 
 // Bits per second.
-#[derive(Clone, Copy, Drop)]
+#[derive(Clone, Copy, Debug, PartialEq, Eq, PartialOrd, Ord)]
 pub struct Rate(pub u64);
 
 pub const TICKS_PER_SECOND: u64 = 1_000_000_000;
 
 // What document 01 gives a range.
-#[derive(Clone, Copy, Drop)]
+#[derive(Clone, Copy, Debug, PartialEq, Eq)]
 pub enum Item {
     StreamId,
     GroupId,
@@ -87,47 +90,25 @@ pub const MOST_LINE_FREE: u64 = 5_000_000_000_000_000_000;
 
 pub const MOST_LIST_PLACES: u64 = 65_536;
 
-// The low end of an item's range.
-fn least(item: Item) -> u64
-    ensures { result ≡ least_of item }
+// The range of an item, both ends included.
+fn range_of(item: Item) -> RangeInclusive<u64>
+    ensures { (range_inclusive_start result ≡ least_of item) × ((range_inclusive_end result ≡ most_of item) × (range_inclusive_exhausted result ≡ false)) }
 {
     match item {
-        Item::StreamId => 0,
-        Item::GroupId => 0,
-        Item::Class => 0,
-        Item::Octets => LEAST_OCTETS,
-        Item::StreamRate => LEAST_STREAM_RATE,
-        Item::Burst => LEAST_BURST,
-        Item::Residence => 0,
-        Item::Arrival => 0,
-        Item::LineRate => LEAST_LINE_RATE,
-        Item::Charge => LEAST_CHARGE,
-        Item::EntryTime => 0,
-        Item::PickMoment => 0,
-        Item::LineFree => 0,
-        Item::ListPlaces => 0,
-    }
-}
-
-// The high end of an item's range.
-fn most(item: Item) -> u64
-    ensures { result ≡ most_of item }
-{
-    match item {
-        Item::StreamId => MOST_STREAM_ID,
-        Item::GroupId => MOST_GROUP_ID,
-        Item::Class => MOST_CLASS,
-        Item::Octets => MOST_OCTETS,
-        Item::StreamRate => MOST_STREAM_RATE,
-        Item::Burst => MOST_BURST,
-        Item::Residence => MOST_RESIDENCE,
-        Item::Arrival => MOST_ARRIVAL,
-        Item::LineRate => MOST_LINE_RATE,
-        Item::Charge => MOST_CHARGE,
-        Item::EntryTime => MOST_ENTRY_TIME,
-        Item::PickMoment => MOST_PICK_MOMENT,
-        Item::LineFree => MOST_LINE_FREE,
-        Item::ListPlaces => MOST_LIST_PLACES,
+        Item::StreamId => 0..=MOST_STREAM_ID,
+        Item::GroupId => 0..=MOST_GROUP_ID,
+        Item::Class => 0..=MOST_CLASS,
+        Item::Octets => LEAST_OCTETS..=MOST_OCTETS,
+        Item::StreamRate => LEAST_STREAM_RATE..=MOST_STREAM_RATE,
+        Item::Burst => LEAST_BURST..=MOST_BURST,
+        Item::Residence => 0..=MOST_RESIDENCE,
+        Item::Arrival => 0..=MOST_ARRIVAL,
+        Item::LineRate => LEAST_LINE_RATE..=MOST_LINE_RATE,
+        Item::Charge => LEAST_CHARGE..=MOST_CHARGE,
+        Item::EntryTime => 0..=MOST_ENTRY_TIME,
+        Item::PickMoment => 0..=MOST_PICK_MOMENT,
+        Item::LineFree => 0..=MOST_LINE_FREE,
+        Item::ListPlaces => 0..=MOST_LIST_PLACES,
     }
 }
 
@@ -135,15 +116,13 @@ fn most(item: Item) -> u64
 pub fn in_range(item: Item, n: u64) -> bool
     ensures { result ≡ in_range item n }
 {
-    if n < least(item) {
-        return false;
-    }
-    n <= most(item)
+    range_of(item).contains(&n)
 }
 
 // Where a table holds the record of an id: at the id; at place 0 for one out of range, whose record no call changes.
 pub fn place_of(item: Item, id: u8) -> usize
-    ensures { result ≡ place_of item id }
+    ensures place { result ≡ place_of item id }
+    ensures within { result ≤ most_of item }
 {
     if in_range(item, id as u64) {
         id as usize
@@ -152,69 +131,49 @@ pub fn place_of(item: Item, id: u8) -> usize
     }
 }
 
-// Why a call is refused: a name for each number of document 01's table from 9 up.
-#[derive(Clone, Copy, Drop)]
+// Why a call is refused: a name for each number of document 01's table from 9 up, and the number of each.
+#[derive(Clone, Copy, Debug, PartialEq, Eq)]
 pub enum Refusal {
     // A record or class that the call touches is unsound.
-    Unsound,
+    Unsound = 9,
     // The stream is above 63 or not set up.
-    NoStream,
+    NoStream = 10,
     // Octets, or an entry's charged bits, are out of range.
-    LengthRange,
+    LengthRange = 11,
     // The charged bits are above the burst.
-    AboveBurst,
+    AboveBurst = 12,
     // The arrival is above its limit, or an entry's time.
-    TooLate,
+    TooLate = 13,
     // The arrival is before the group's last arrival.
-    BeforeLast,
+    BeforeLast = 14,
     // The id to set up is out of range.
-    IdRange,
+    IdRange = 15,
     // The id is already set up.
-    SetUpBefore,
+    SetUpBefore = 16,
     // A stream's group is out of range or not set up.
-    NoGroup,
-    RateRange,
-    BurstRange,
-    ResidenceRange,
-    ClassRange,
-    ClassFull,
+    NoGroup = 17,
+    RateRange = 18,
+    BurstRange = 19,
+    ResidenceRange = 20,
+    ClassRange = 21,
+    ClassFull = 22,
     // The two bytes are no known mark.
-    UnknownMark,
+    UnknownMark = 24,
     // The record is cut short.
-    CutShort,
+    CutShort = 25,
     // The destination is shorter than the record.
-    NoRoom,
+    NoRoom = 26,
     // A run's lists do not fit each other, or the start is beyond the end.
-    ListsUnfit,
+    ListsUnfit = 28,
     // The line rate is out of range, or line-free is.
-    LineUnfit,
+    LineUnfit = 29,
 }
 
 // Document 01's number of a refusal.
 pub fn refusal_number(refusal: Refusal) -> u8
     ensures { result ≡ number_of refusal }
 {
-    match refusal {
-        Refusal::Unsound => 9,
-        Refusal::NoStream => 10,
-        Refusal::LengthRange => 11,
-        Refusal::AboveBurst => 12,
-        Refusal::TooLate => 13,
-        Refusal::BeforeLast => 14,
-        Refusal::IdRange => 15,
-        Refusal::SetUpBefore => 16,
-        Refusal::NoGroup => 17,
-        Refusal::RateRange => 18,
-        Refusal::BurstRange => 19,
-        Refusal::ResidenceRange => 20,
-        Refusal::ClassRange => 21,
-        Refusal::ClassFull => 22,
-        Refusal::UnknownMark => 24,
-        Refusal::CutShort => 25,
-        Refusal::NoRoom => 26,
-        Refusal::ListsUnfit => 28,
-        Refusal::LineUnfit => 29,
-    }
+    refusal as u8
 }
 
 // The charged bits of a frame on a line that adds so many octets to each.

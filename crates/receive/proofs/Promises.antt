@@ -22,7 +22,7 @@ use Rattle.bridge.specs.Tables.{no_group, no_stream, group_at, stream_at, with_g
 use Rattle.calls.specs.Calls.{judged_at}
 use Rattle.bridge.specs.Calls.{frame_stored, frame_called}
 use Rattle.bridge.specs.declared.Bridge.{Bridge}
-use Rattle.bridge.specs.declared.Framed.{Framed}
+use Rattle.bridge.specs.Calls.{Framed}
 use Rattle.bridge.proofs.Tables.{same_group as same_groups, same_stream as same_table}
 use Rattle.calls.proofs.Returns.{frame_id_out, frame_id_in}
 use Rattle.lent.specs.InPlace.{run_places, judged_in, stays, stored, received, Received}

@@ -8,7 +8,7 @@ use Rattle.records.specs.declared.Stream.{Stream}
 use Rattle.bridge.specs.Tables.{no_stream, group_at, stream_at}
 use Rattle.bridge.specs.Calls.{frame_called}
 use Rattle.bridge.specs.declared.Bridge.{Bridge}
-use Rattle.bridge.specs.declared.Framed.{Framed}
+use Rattle.bridge.specs.Calls.{Framed}
 use Rattle.lent.specs.InPlace.{run_places, received, Received}
 
 -- the tables where the lent records are put back: the run is the table of streams, the group's record that of group i

@@ -59,11 +59,7 @@ pub enum Answer {
 pub fn is_set_up(regulator: Regulator) -> bool
     ensures { result ≡ is_set_up regulator }
 {
-    if let Regulator::Unset = regulator {
-        false
-    } else {
-        true
-    }
+    !matches!(regulator, Regulator::Unset)
 }
 
 // Document 01's number of an answer.

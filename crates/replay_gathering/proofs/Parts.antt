@@ -18,8 +18,6 @@ use Rattle.tablefile.specs.declared.Reading.TheVariants.{Found, NothingLeft, Ref
 use Rattle.reader.proofs.Further as reading
 use Rattle.reader.proofs.OneRecord.{Front, empty, cut, strange, whole, front, found_in_longer}
 use Rattle.bridge.specs.declared.Bridge.{Bridge}
-use Rattle.calls.specs.declared.SetUp.{SetUp}
-use Rattle.calls.specs.declared.SetUp.TheVariants as set_up
 use Rattle.replay_gathering.specs.declared.End.{End}
 use Rattle.replay_gathering.specs.declared.End.TheVariants as end
 use Rattle.replay_gathering.specs.declared.Task.{Task}
@@ -27,6 +25,8 @@ use Rattle.replay_gathering.specs.declared.Task.TheVariants.{Ends, Sets, Frame}
 use Rattle.replay_gathering.specs.Gathering.{State, Outcome, ended, task_of, task_for, room_in, task_at, called, set_up_taken, after_set_up, setting_up, frame_taken, onward, gather_from}
 use Rattle.replay_gathering.specs.Promises.{WantsMore, nothing_left, cut_short, moved, after}
 use Rattle.replay_gathering.proofs.Turns.{Ahead, ends, sets, frame, task_ahead, unfolds}
+use Rattle.std.proofs.Common.{Result, Ok, Err}
+use Rattle.quantity.specs.declared.Refusal.{Refusal}
 
 -- ---- further bytes in front
 
@@ -61,10 +61,10 @@ module _ (before bytes : List ℕ) (m : ℕ) where
       ∙ ap (task_for (room_in s)) (reading.moved_left (drop s.at bytes) (length before) s.at)
       ∙ task_for_moved (length before) (room_in s) (read_left (drop s.at bytes) s.at)
 
-  after_moved : (a : SetUp) (x : State) (f g : State → Outcome) → f (moved n m x) ≡ after n m (g x) → after_set_up a (moved n m x) f ≡ after n m (after_set_up a x g)
+  after_moved : (a : Result (Unit {0}) Refusal) (x : State) (f g : State → Outcome) → f (moved n m x) ≡ after n m (g x) → after_set_up a (moved n m x) f ≡ after n m (after_set_up a x g)
   unfolding after_set_up after ended moved
-  after_moved set_up.Done x f g e = e
-  after_moved (set_up.Refused why) x f g e = refl
+  after_moved (Ok tt) x f g e = e
+  after_moved (Err why) x f g e = refl
 
   taken_moved : (s : State) (next : ℕ) (b : Bridge) → set_up_taken (moved n m s) (n + next) b ≡ moved n m (set_up_taken s next b)
   unfolding set_up_taken moved
@@ -160,10 +160,10 @@ module _ (part rest : List ℕ) (bytes : AreBytes part) where
   unfolding ended
   ended_continues s why i closed = record { inside = i; more = λ w. absurd (closed w); done = λ w. refl }
 
-  after_continues : (a : SetUp) (x : State) → x.at ≤ length part → Continues (gather_from (part ++ rest) x) (gather_from part x) → Continues (after_set_up a x (gather_from (part ++ rest))) (after_set_up a x (gather_from part))
+  after_continues : (a : Result (Unit {0}) Refusal) (x : State) → x.at ≤ length part → Continues (gather_from (part ++ rest) x) (gather_from part x) → Continues (after_set_up a x (gather_from (part ++ rest))) (after_set_up a x (gather_from part))
   unfolding after_set_up
-  after_continues set_up.Done x i c = c
-  after_continues (set_up.Refused why) x i c =
+  after_continues (Ok tt) x i c = c
+  after_continues (Err why) x i c =
       ended_continues x (end.NotSetUp why) i
       (λ w. wanted w (λ q. let z : ◌≡◌ {A = ℕ} 0 1 = cc in omega arith) (λ q. let z : ◌≡◌ {A = ℕ} 0 1 = cc in omega arith))
 

@@ -1,8 +1,7 @@
 -- Laws of set-ups on the stream and the group that the code found: what it stores is the call on the tables. Assumes nothing.
 use mathlib.Core.Path.{◌≡◌, refl, ap, ◌∙◌}
 use mathlib.Core.List.{List}
-use Prim.Native.Nat.{ℕ, ◌<◌}
-use native.Mathlib.Omega.{arith}
+use Prim.Native.Nat.{ℕ}
 use lib.ListN.{get_or, set}
 use lib.Seq.{set-get_or}
 use Rattle.records.specs.declared.Group as group
@@ -10,9 +9,7 @@ use Rattle.records.specs.declared.Stream as stream
 use Rattle.calls.specs.Calls.{group_placed, stream_placed}
 use Rattle.bridge.specs.Tables.{no_group, no_stream}
 use Rattle.bridge.specs.declared.Bridge.{Bridge}
-use Rattle.bridge.specs.declared.BridgeSetUp.{BridgeSetUp}
-use Rattle.quantity.specs.declared.Item.TheVariants.{GroupId, StreamId}
-use Rattle.quantity.proofs.Ranges.{place_most}
+use Rattle.bridge.specs.Calls.{BridgeSetUp}
 use Rattle.bridge.proofs.Tables.{group_call, stream_call}
 use Rattle.replay_gathering.specs.declared.Wanted.{Wanted}
 use Rattle.replay_gathering.specs.declared.Wanted.TheVariants.{Group, Stream}
@@ -21,16 +18,6 @@ use Rattle.replay_gathering.specs.Gathering.{called}
 use Rattle.replay_gathering.specs.Steps.{stream_of, group_of, group_prepared, stream_prepared, prepared_by}
 
 -- ---- the places that the code found
-
-pub stream_found : (p : ℕ) (w : Wanted) → p ≡ stream_of w → p < 64
-unfolding stream_of
-stream_found p (Group i c M) e = omega arith
-stream_found p (Stream i k r u) e = omega (arith, place_most StreamId i)
-
-pub group_found : (q : ℕ) (w : Wanted) → q ≡ group_of w → q < 16
-unfolding group_of
-group_found q (Group i c M) f = omega (arith, place_most GroupId i)
-group_found q (Stream i k r u) f = omega (arith, place_most GroupId k)
 
 -- ---- what it stores there
 
@@ -42,11 +29,11 @@ module _ (b : Bridge) (p q : ℕ) where
   unfolding stored stream_of group_of group_prepared stream_prepared prepared_by called
   stored_is (Group i c M) e f =
       let x = group_placed i (get_or b.groups q no_group) c M.0 in
-      ap (λ (ss : List stream.Stream). record { answer = x.answer; bridge = record { groups = set b.groups q x.group; streams = ss } }) (set-get_or b.streams p no_stream)
+      ap (λ (ss : List stream.Stream). record { answer = x.answer; bridge = record { groups = set b.groups q x.after; streams = ss } }) (set-get_or b.streams p no_stream)
       ∙ group_call b i c M.0 q f x refl
   stored_is (Stream i k r u) e f =
       let x = stream_placed i (get_or b.streams p no_stream) k (get_or b.groups q no_group) r.0 u in
-      ap (λ (gs : List group.Group). record { answer = x.answer; bridge = record { groups = gs; streams = set b.streams p x.stream } }) (set-get_or b.groups q no_group)
+      ap (λ (gs : List group.Group). record { answer = x.answer; bridge = record { groups = gs; streams = set b.streams p x.after } }) (set-get_or b.groups q no_group)
       ∙ stream_call b i k r.0 u p q e f x refl
 
   pub call_is : (w : Wanted) → p ≡ stream_of w → q ≡ group_of w → (x : Prepared) → x ≡ prepared_by w (get_or b.streams p no_stream) (get_or b.groups q no_group)

@@ -19,9 +19,7 @@ use Rattle.tablefile.specs.declared.Reading.TheVariants as reading
 use Rattle.tablefile.proofs.Fields.{mark_width_law}
 use Rattle.reader.proofs.Marks.{none_left}
 use Rattle.reader.proofs.OneRecord.{Front, empty, cut, strange, whole, front}
-use Rattle.bridge.specs.declared.BridgeSetUp.{BridgeSetUp}
-use Rattle.calls.specs.declared.SetUp.{SetUp}
-use Rattle.calls.specs.declared.SetUp.TheVariants.{Done, Refused}
+use Rattle.bridge.specs.Calls.{BridgeSetUp}
 use Rattle.replay_gathering.specs.declared.End.{End}
 use Rattle.replay_gathering.specs.declared.End.TheVariants.{NothingLeft, NotSetUp, ListsFull}
 use Rattle.replay_gathering.specs.declared.Task.{Task}
@@ -29,6 +27,7 @@ use Rattle.replay_gathering.specs.declared.Task.TheVariants.{Ends, Sets, Frame}
 use Rattle.replay_gathering.specs.declared.Wanted.{Wanted}
 use Rattle.replay_gathering.specs.Steps.{task_after}
 use Rattle.replay_gathering.specs.Gathering.{State, Outcome, ended, has_room, task_of, task_for, room_in, task_at, called, set_up_taken, after_set_up, setting_up, frame_taken, onward, gather_for, gather_from}
+use Rattle.std.proofs.Common.{Result, Ok, Err}
 
 -- ---- what the code tests
 
@@ -54,11 +53,11 @@ unfolding task_of
 frame_goes room x i o A next e h = rw (e, h)
 
 -- a set-up that was refused leaves no other task
-pub after_done : (a : SetUp) (t u : Task) → a ≡ Done → t ≡ u → t ≡ task_after a u
+pub after_done : (a : Result (Unit {0}) Refusal) (t u : Task) → a ≡ (Ok tt) → t ≡ u → t ≡ task_after a u
 unfolding task_after
 after_done a t u e f = rw e f
 
-pub after_refused : (a : SetUp) (why : Refusal) → a ≡ Refused why → (u : Task) → Ends (NotSetUp why) ≡ task_after a u
+pub after_refused : (a : Result (Unit {0}) Refusal) (why : Refusal) → a ≡ Err why → (u : Task) → Ends (NotSetUp why) ≡ task_after a u
 unfolding task_after
 after_refused a why e u = rw e
 
@@ -89,10 +88,10 @@ pub task_ahead : (bytes : List ℕ) (s : State) → Ahead s.at (length bytes) (t
 unfolding task_at read_at
 task_ahead bytes s = reading_ahead bytes s.at (room_in s) (front (drop s.at bytes) s.at)
 
-after_ahead : {p n : ℕ} (a : SetUp) {t : Task} → Ahead p n t → Ahead p n (task_after a t)
+after_ahead : {p n : ℕ} (a : Result (Unit {0}) Refusal) {t : Task} → Ahead p n t → Ahead p n (task_after a t)
 unfolding task_after
-after_ahead Done h = h
-after_ahead (Refused why) h = ends (NotSetUp why)
+after_ahead (Ok tt) h = h
+after_ahead (Err why) h = ends (NotSetUp why)
 
 sets_ahead : {p n : ℕ} {w : Wanted} {next : ℕ} → Ahead p n (Sets w next) → (p < next) × (next ≤ n)
 sets_ahead (sets w next a b) = (a, b)
@@ -103,10 +102,10 @@ frame_ahead (frame i o A next a b) = (a, b)
 -- ---- one record at a time
 
 -- what follows a set-up matters only in the state after it
-after_same : (a : SetUp) (x : State) (f g : State → Outcome) → f x ≡ g x → after_set_up a x f ≡ after_set_up a x g
+after_same : (a : Result (Unit {0}) Refusal) (x : State) (f g : State → Outcome) → f x ≡ g x → after_set_up a x f ≡ after_set_up a x g
 unfolding after_set_up
-after_same Done x f g e = e
-after_same (Refused why) x f g e = refl
+after_same (Ok tt) x f g e = e
+after_same (Err why) x f g e = refl
 
 -- and what follows a task only in states at later places
 later : {n : ℕ} {t : Task} (s : State) → Ahead s.at n t → (f g : State → Outcome) → ((x : State) → s.at < x.at → f x ≡ g x) → onward s t f ≡ onward s t g
@@ -128,13 +127,13 @@ module _ (bytes : List ℕ) where
       later s (task_ahead bytes s) (gather_for n bytes) (gather_for (suc n) bytes) (λ x l. enough n x (omega arith))
 
   -- after a set-up with this answer the gathering ends, or goes on with the next task
-  goes_on : (a : SetUp) (s : State) → onward s (task_after a (task_at bytes s)) (gather_from bytes) ≡ after_set_up a s (gather_from bytes)
+  goes_on : (a : Result (Unit {0}) Refusal) (s : State) → onward s (task_after a (task_at bytes s)) (gather_from bytes) ≡ after_set_up a s (gather_from bytes)
   unfolding onward task_after after_set_up
-  goes_on Done s = sym (unfolds s)
-  goes_on (Refused why) s = refl
+  goes_on (Ok tt) s = sym (unfolds s)
+  goes_on (Err why) s = refl
 
 -- ---- what the loop keeps, where a is what the set-up answered that was just made
-pub record Gathers (bytes : List ℕ) (s₀ : State) (a : SetUp) (s : State) : Type 0 where
+pub record Gathers (bytes : List ℕ) (s₀ : State) (a : Result (Unit {0}) Refusal) (s : State) : Type 0 where
   pub same : after_set_up a s (gather_from bytes) ≡ gather_from bytes s₀
   pub within : s.at ≤ length bytes
   pub few : s.records ≤ s.at
@@ -142,7 +141,7 @@ pub record Gathers (bytes : List ℕ) (s₀ : State) (a : SetUp) (s : State) : T
   pub ids_long : length s.ids ≡ length s₀.ids
   pub octets_long : length s.octets ≡ length s₀.octets
 
-pub starts : (bytes : List ℕ) (s : State) → s.at ≡ 0 → s.records ≡ 0 → Gathers bytes s Done s
+pub starts : (bytes : List ℕ) (s : State) → s.at ≡ 0 → s.records ≡ 0 → Gathers bytes s (Ok tt) s
 unfolding after_set_up
 starts bytes s e f = record { same = refl; within = omega arith; few = omega arith; arrivals_long = refl; ids_long = refl; octets_long = refl }
 
@@ -162,10 +161,10 @@ room_for room (reading.Found r here) i o A next e = room_of room r here i o A ne
 room_for room reading.NothingLeft i o A next e = let z : ◌≡◌ {A = ℕ} 0 1 = cc in absurd (omega arith)
 room_for room (reading.Refused why) i o A next e = let z : ◌≡◌ {A = ℕ} 0 1 = cc in absurd (omega arith)
 
-none_refused : (a : SetUp) (t : Task) (i o : ℕ) (A : Ticks) (next : ℕ) → task_after a t ≡ Frame i o A next → (a ≡ Done) × (t ≡ Frame i o A next)
+none_refused : (a : Result (Unit {0}) Refusal) (t : Task) (i o : ℕ) (A : Ticks) (next : ℕ) → task_after a t ≡ Frame i o A next → (a ≡ (Ok tt)) × (t ≡ Frame i o A next)
 unfolding task_after
-none_refused Done t i o A next e = (refl, e)
-none_refused (Refused why) t i o A next e = let z : ◌≡◌ {A = ℕ} 0 1 = cc in absurd (omega arith)
+none_refused (Ok tt) t i o A next e = (refl, e)
+none_refused (Err why) t i o A next e = let z : ◌≡◌ {A = ℕ} 0 1 = cc in absurd (omega arith)
 
 -- a place that each list has
 pub record Room (s : State) : Type 0 where
@@ -186,12 +185,12 @@ has_room_law s e =
 -- ---- a turn of the loop
 
 -- its task is the one of the definition
-pub record Turn (bytes : List ℕ) (s₀ : State) (a : SetUp) (s : State) (t : Task) : Type 0 where
+pub record Turn (bytes : List ℕ) (s₀ : State) (a : Result (Unit {0}) Refusal) (s : State) (t : Task) : Type 0 where
   pub gathers : Gathers bytes s₀ a s
   pub task : t ≡ task_after a (task_at bytes s)
 
 -- as the code finds it
-pub turn : (bytes : List ℕ) (s₀ : State) (a : SetUp) (s : State) → Gathers bytes s₀ a s
+pub turn : (bytes : List ℕ) (s₀ : State) (a : Result (Unit {0}) Refusal) (s : State) → Gathers bytes s₀ a s
     → (room : Bool) → room ≡ has_room s.count (length s.arrivals) (length s.ids) (length s.octets) → (x : Reading) → x ≡ read_at bytes s.at
     → (t : Task) → t ≡ task_after a (task_for room x) → Turn bytes s₀ a s t
 unfolding task_at room_in
@@ -200,7 +199,7 @@ turn bytes s₀ a s G room e x h t f = record {
   task = f ∙ ap (λ (y : Reading). task_after a (task_for room y)) h ∙ ap (λ (b : Bool). task_after a (task_for b (read_at bytes s.at))) e;
 }
 
-module _ {bytes : List ℕ} {s₀ : State} {a : SetUp} {s : State} {t : Task} (T : Turn bytes s₀ a s t) where
+module _ {bytes : List ℕ} {s₀ : State} {a : Result (Unit {0}) Refusal} {s : State} {t : Task} (T : Turn bytes s₀ a s t) where
   done : onward s t (gather_from bytes) ≡ gather_from bytes s₀
   done = ap (λ (x : Task). onward s x (gather_from bytes)) T.task ∙ goes_on bytes a s ∙ T.gathers.same
 
@@ -235,7 +234,7 @@ module _ {bytes : List ℕ} {s₀ : State} {a : SetUp} {s : State} {t : Task} (T
     pub frame_within : (s.at < next) × (next ≤ length bytes)
     frame_within = frame_ahead (subst (Ahead s.at (length bytes)) g ahead)
 
-    alone : (a ≡ Done) × (task_at bytes s ≡ Frame i o A next)
+    alone : (a ≡ (Ok tt)) × (task_at bytes s ≡ Frame i o A next)
     alone = none_refused a (task_at bytes s) i o A next (sym T.task ∙ g)
 
     pub frame_room : Room s
@@ -246,7 +245,7 @@ module _ {bytes : List ℕ} {s₀ : State} {a : SetUp} {s : State} {t : Task} (T
     unfolding onward frame_taken after_set_up
     turn_takes = record {
       same =
-          ap (λ (x : SetUp). after_set_up x (frame_taken s next i o A.0) (gather_from bytes)) alone.0
+          ap (λ (x : Result (Unit {0}) Refusal). after_set_up x (frame_taken s next i o A.0) (gather_from bytes)) alone.0
           ∙ sym (ap (λ (x : Task). onward s x (gather_from bytes)) g)
           ∙ done;
       within = frame_within.1;

@@ -1,6 +1,6 @@
 -- What a replay gathers: the records of a part of a table file, taken one after the other into a bridge and the three lists of arrivals. Document 01 asks for the run and for the listing; no sentence of it stands here.
 -- s is how a gathering stands, b a bridge; of a record, i is its id, c a class, M a residence limit, k a stream's group, r a rate, u a burst, n a frame's octets, A its arrival, and next the place after it.
-use Rattle.std.specs.Prelude.{ℕ, zero, suc, ◌+◌, Bool, cond, ◌&&◌, List, ltb, length, set}
+use Rattle.std.specs.Prelude.{ℕ, zero, suc, ◌+◌, Bool, cond, ◌&&◌, List, ltb, length, set, Ok, Err}
 use Rattle.quantity.specs.Kinds.{ticks}
 use Rattle.reader.specs.Reader.{read_at}
 use Rattle.tablefile.specs.Meaning.{default_residence}
@@ -10,9 +10,7 @@ use Rattle.tablefile.specs.declared.Reading.{Reading}
 use Rattle.tablefile.specs.declared.Reading.TheVariants as reading
 use Rattle.bridge.specs.Calls.{group_called, stream_called}
 use Rattle.bridge.specs.declared.Bridge.{Bridge}
-use Rattle.bridge.specs.declared.BridgeSetUp.{BridgeSetUp}
-use Rattle.calls.specs.declared.SetUp.{SetUp}
-use Rattle.calls.specs.declared.SetUp.TheVariants.{Done, Refused}
+use Rattle.bridge.specs.Calls.{BridgeSetUp}
 use Rattle.replay_gathering.specs.declared.End.{End}
 use Rattle.replay_gathering.specs.declared.End.TheVariants.{NothingLeft, Unreadable, NotSetUp, ListsFull}
 use Rattle.replay_gathering.specs.declared.Task.{Task}
@@ -20,6 +18,8 @@ use Rattle.replay_gathering.specs.declared.Task.TheVariants.{Ends, Sets, Frame}
 use Rattle.replay_gathering.specs.declared.Wanted.{Wanted}
 use Rattle.replay_gathering.specs.declared.Wanted.TheVariants.{Group, Stream}
 use Rattle.replay_gathering.specs.declared.Gathered.{Gathered}
+use Rattle.std.specs.declared.result.Result.{Result}
+use Rattle.quantity.specs.declared.Refusal.{Refusal}
 
 -- ---- how a gathering stands, and what it gives
 
@@ -86,9 +86,9 @@ unfoldable pub set_up_taken : State → ℕ → Bridge → State
 set_up_taken s next b = record { at = next; records = s.records + 1; count = s.count; bridge = b; arrivals = s.arrivals; ids = s.ids; octets = s.octets }
 
 -- a set-up that is refused ends the gathering after its record
-unfoldable pub after_set_up : SetUp → State → (State → Outcome) → Outcome
-after_set_up Done s more = more s
-after_set_up (Refused why) s more = ended (NotSetUp why) s
+unfoldable pub after_set_up : Result (Unit {0}) Refusal → State → (State → Outcome) → Outcome
+after_set_up (Ok tt) s more = more s
+after_set_up (Err why) s more = ended (NotSetUp why) s
 
 unfoldable pub setting_up : State → ℕ → BridgeSetUp → (State → Outcome) → Outcome
 setting_up s next x more = after_set_up x.answer (set_up_taken s next x.bridge) more

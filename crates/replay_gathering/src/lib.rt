@@ -3,12 +3,11 @@
 // programs.
 #![tactic(auto)]
 
-ghost use Rattle.std.specs.Prelude.{◌≡◌};
+ghost use Rattle.std.specs.Prelude.{◌≡◌, ◌<◌};
 ghost use Rattle.replay_gathering.specs.Gathering.{has_room, task_of, task_for, gather_from, begun};
 ghost use Rattle.replay_gathering.specs.Steps.{task_after, stream_of, group_of, prepared_by};
 
 use bridge::Bridge;
-use calls::SetUp;
 use quantity::{Bits, Item, Rate, Refusal, Ticks};
 use records::{Group, Stream};
 use tablefile::{Reading, Record};
@@ -61,7 +60,7 @@ pub enum Task {
 // What a set-up answers, and the stream and the group that it looked at, as it leaves them.
 #[derive(Clone, Copy, Drop)]
 pub struct Prepared {
-    pub answer: SetUp,
+    pub answer: Result<(), Refusal>,
     pub stream: Stream,
     pub group: Group,
 }
@@ -150,10 +149,10 @@ fn task_of(given: Record, next: usize, room: bool) -> Task
 }
 
 // What is to be done where the reader gave this, after a record whose set-up, if it was one, had this answer.
-fn next_task(reading: Reading, room: bool, answer: SetUp) -> Task
+fn next_task(reading: Reading, room: bool, answer: Result<(), Refusal>) -> Task
     ensures { result ≡ task_after answer (task_for room reading) }
 {
-    if let SetUp::Refused(why) = answer {
+    if let Err(why) = answer {
         return Task::Ends(End::NotSetUp(why));
     }
     match reading {
@@ -165,7 +164,8 @@ fn next_task(reading: Reading, room: bool, answer: SetUp) -> Task
 
 // The place of the stream that a set-up looks at. A group's looks at none, and leaves stream 0.
 fn stream_at(wanted: Wanted) -> usize
-    ensures { result ≡ stream_of wanted }
+    ensures place { result ≡ stream_of wanted }
+    ensures within { result < 64 }
 {
     match wanted {
         Wanted::Group { .. } => 0,
@@ -175,7 +175,8 @@ fn stream_at(wanted: Wanted) -> usize
 
 // The place of the group that it looks at.
 fn group_at(wanted: Wanted) -> usize
-    ensures { result ≡ group_of wanted }
+    ensures place { result ≡ group_of wanted }
+    ensures within { result < 16 }
 {
     match wanted {
         Wanted::Group { group, .. } => quantity::place_of(Item::GroupId, group),
@@ -184,7 +185,7 @@ fn group_at(wanted: Wanted) -> usize
 }
 
 // Makes a set-up's call on the stream and the group that it looks at.
-fn prepare(wanted: Wanted, mut stream: Stream, mut group: Group) -> Prepared
+fn prepare(wanted: Wanted, stream: Stream, group: Group) -> Prepared
     ensures { result ≡ prepared_by wanted stream group }
 {
     match wanted {
@@ -194,12 +195,10 @@ fn prepare(wanted: Wanted, mut stream: Stream, mut group: Group) -> Prepared
             residence,
         } => {
             let placed = calls::place_group(id, group, class, residence);
-            group = placed.group;
-            let answer = placed.answer;
             Prepared {
-                answer,
+                answer: placed.answer,
                 stream,
-                group,
+                group: placed.after,
             }
         }
         Wanted::Stream {
@@ -209,11 +208,9 @@ fn prepare(wanted: Wanted, mut stream: Stream, mut group: Group) -> Prepared
             burst,
         } => {
             let placed = calls::place_stream(id, stream, of, group, rate, Bits(burst as u64));
-            stream = placed.stream;
-            let answer = placed.answer;
             Prepared {
-                answer,
-                stream,
+                answer: placed.answer,
+                stream: placed.after,
                 group,
             }
         }
@@ -224,7 +221,7 @@ fn prepare(wanted: Wanted, mut stream: Stream, mut group: Group) -> Prepared
 // lists, from `count` on. Ends where no record stands, after a set-up that was refused, or at a frame that has no place.
 pub fn gather_part(
     bytes: &[u8],
-    bridge: Bridge,
+    mut bridge: Bridge,
     arrivals: &mut [u64],
     ids: &mut [u8],
     octets: &mut [u16],
@@ -233,12 +230,10 @@ pub fn gather_part(
     ensures { record { gathered = result; arrivals = arrivals.new; ids = ids.new; octets = octets.new }
         ≡ gather_from bytes.now (begun bridge arrivals.old ids.old octets.old count) }
 {
-    let mut groups = bridge.groups;
-    let mut streams = bridge.streams;
     let mut at: usize = 0;
     let mut records: usize = 0;
     // What the set-up answered that was just made; else none was refused.
-    let mut answer = SetUp::Done;
+    let mut answer = Ok(());
     loop {
         let room = has_room(count, arrivals.len(), ids.len(), octets.len());
         let reading = reader::read(bytes, at);
@@ -250,17 +245,15 @@ pub fn gather_part(
                     at,
                     records,
                     count,
-                    bridge: Bridge { groups, streams },
+                    bridge,
                 };
             }
             Task::Sets { wanted, next } => {
                 let place = stream_at(wanted);
                 let of = group_at(wanted);
-                let prepared = prepare(wanted, streams[place], groups[of]);
-                let stream = prepared.stream;
-                let group = prepared.group;
-                streams[place] = stream;
-                groups[of] = group;
+                let prepared = prepare(wanted, bridge.streams[place], bridge.groups[of]);
+                bridge.streams[place] = prepared.stream;
+                bridge.groups[of] = prepared.group;
                 answer = prepared.answer;
                 at = next;
                 records += 1;

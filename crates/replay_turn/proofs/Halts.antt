@@ -14,8 +14,6 @@ use Rattle.tablefile.specs.declared.Reading.{Reading}
 use Rattle.tablefile.specs.declared.Reading.TheVariants as reading
 use Rattle.reader.specs.Reader.{read_at}
 use Rattle.bridge.specs.declared.Bridge.{Bridge}
-use Rattle.calls.specs.declared.SetUp.{SetUp}
-use Rattle.calls.specs.declared.SetUp.TheVariants.{Done, Refused}
 use Rattle.replay_gathering.specs.declared.End.{End}
 use Rattle.replay_gathering.specs.declared.End.TheVariants.{NothingLeft, Unreadable, NotSetUp, ListsFull}
 use Rattle.replay_gathering.specs.declared.Task.TheVariants.{Sets, Frame}
@@ -25,6 +23,7 @@ use Rattle.replay_gathering.specs.Gathering.{State, Outcome, ended, task_of, tas
 use Rattle.replay_gathering.proofs.Turns.{Ahead, sets, frame, task_ahead, unfolds}
 use Rattle.replay_gathering.proofs.Parts.{resumed}
 use Rattle.replay_turn.proofs.Places.{roomy}
+use Rattle.std.proofs.Common.{Result, Ok, Err}
 
 -- a record that is a task leads on to a later place, and not beyond the bytes
 sets_on : {p n : ℕ} {w : Wanted} {next : ℕ} → Ahead p n (Sets w next) → (p < next) × (next ≤ n)
@@ -155,10 +154,10 @@ module _ (bytes : List ℕ) where
         octets_still = λ c. omega (arith, room.octets);
       }
 
-  after_halts : (s t : State) (a : SetUp) → Beyond s t → t.at ≤ length bytes → Halts t (gather_from bytes t) → Halts s (after_set_up a t (gather_from bytes))
+  after_halts : (s t : State) (a : Result (Unit {0}) Refusal) → Beyond s t → t.at ≤ length bytes → Halts t (gather_from bytes t) → Halts s (after_set_up a t (gather_from bytes))
   unfolding after_set_up
-  after_halts s t Done b i h = beyond b h
-  after_halts s t (Refused why) b i h = refused_after s t why b i
+  after_halts s t (Ok tt) b i h = beyond b h
+  after_halts s t (Err why) b i h = refused_after s t why b i
 
   module _ (s : State) (ih : (t : State) → s.at < t.at → t.at ≤ length bytes → Halts t (gather_from bytes t)) where
     set_halts : (w : Wanted) (next : ℕ) → (s.at < next) × (next ≤ length bytes) → Halts s (onward s (Sets w next) (gather_from bytes))

@@ -24,9 +24,7 @@ use Rattle.reader.specs.Reader.{read_at}
 use Rattle.reader.specs.File.{onwards, contents_from}
 use Rattle.reader.proofs.RoundTrip.{one_at_a_time}
 use Rattle.bridge.specs.declared.Bridge.{Bridge}
-use Rattle.bridge.specs.declared.BridgeSetUp.{BridgeSetUp}
-use Rattle.calls.specs.declared.SetUp.{SetUp}
-use Rattle.calls.specs.declared.SetUp.TheVariants.{Done, Refused}
+use Rattle.bridge.specs.Calls.{BridgeSetUp}
 use Rattle.intake.specs.Promises.{Given, following}
 use Rattle.text.specs.Puts.{joined}
 use Rattle.replay_text.specs.Notes.{note_text}
@@ -41,6 +39,7 @@ use Rattle.replay_gathering.proofs.Parts.{resumed}
 use Rattle.replay_turn.specs.Gathered.{Yard, with_bridge, with_frame, frames, Final, ends_with, answer_note, ended_at, set_up_made, taken, records_taken, gathered_of}
 use Rattle.replay_turn.proofs.Places.{fewest, roomy, place_left, one_behind}
 use Rattle.reader.proofs.Further.{moved, moved_at, found_further, found_there}
+use Rattle.std.proofs.Common.{Result, Ok, Err}
 
 -- ---- from a place on
 
@@ -183,10 +182,10 @@ module _ (records before : ℕ) (part after : List ℕ) (h : AreBytes part) wher
 
   -- a set-up
   module _ (g : State) (ih : (t : State) → g.at < t.at → t.at ≤ length part → Goes t (gather_from part t)) where
-    answered : (a : SetUp) (t : State) → gives g ≡ following (note_text (answer_note (records + t.records) a)) (gives t) → Goes t (gather_from part t) → Goes g (after_set_up a t (gather_from part))
+    answered : (a : Result (Unit {0}) Refusal) (t : State) → gives g ≡ following (note_text (answer_note (records + t.records) a)) (gives t) → Goes t (gather_from part t) → Goes g (after_set_up a t (gather_from part))
     unfolding Goes after_set_up answer_note spoken ended resumed
-    answered Done t e i = e ∙ nothing_before (gives t) ∙ i
-    answered (Refused why) t e i = e
+    answered (Ok tt) t e i = e ∙ nothing_before (gives t) ∙ i
+    answered (Err why) t e i = e
 
     set_up_goes : (r : Record) (next : ℕ) (x : BridgeSetUp) → read_at part g.at ≡ reading.Found r next
         → ((rest : Yard → Given Final) → taken (fewest g) (records + g.records) (yard_in g) r rest ≡ set_up_made (records + g.records) (yard_in g) x rest)

@@ -1,6 +1,6 @@
 -- Document 01, 'The table file', for a replay: what a whole file gives, said by its records. The frames, in order, are the arrivals of the run.
 -- y is what was gathered, most how many frames have a place, n a count of records; of a record, i is its id, c a class, M a residence limit, k a stream's group, r a rate, u a burst, o a frame's octets, A its arrival.
-use Rattle.std.specs.Prelude.{ℕ, ◌+◌, Bool, true, false, cond, List, [], ◌∷◌, ◌++◌, ltb, eqb, length}
+use Rattle.std.specs.Prelude.{ℕ, ◌+◌, Bool, true, false, cond, List, [], ◌∷◌, ◌++◌, ltb, eqb, length, Ok, Err}
 use Rattle.quantity.specs.Numbers.{number_of}
 use Rattle.tablefile.specs.Answers.{nothing_left}
 use Rattle.tablefile.specs.Meaning.{default_residence}
@@ -10,13 +10,13 @@ use Rattle.reader.specs.File.{Contents, contents}
 use Rattle.bridge.specs.Calls.{group_called, stream_called}
 use Rattle.bridge.specs.Tables.{fresh_bridge}
 use Rattle.bridge.specs.declared.Bridge.{Bridge}
-use Rattle.bridge.specs.declared.BridgeSetUp.{BridgeSetUp}
-use Rattle.calls.specs.declared.SetUp.{SetUp}
-use Rattle.calls.specs.declared.SetUp.TheVariants.{Done, Refused}
+use Rattle.bridge.specs.Calls.{BridgeSetUp}
 use Rattle.intake.specs.Promises.{Given, following}
 use Rattle.replay_text.specs.Notes.{note_text}
 use Rattle.replay_text.specs.declared.Note.{Note}
 use Rattle.replay_text.specs.declared.Note.TheVariants.{Nothing, NotSetUp, Unreadable, TooManyFrames}
+use Rattle.std.specs.declared.result.Result.{Result}
+use Rattle.quantity.specs.declared.Refusal.{Refusal}
 
 -- ---- what is gathered
 
@@ -53,9 +53,9 @@ ends_with note whole y = record { text = note_text note; final = record { whole 
 -- ---- record by record
 
 -- a set-up that was refused is told, and the reading goes on
-unfoldable pub answer_note : ℕ → SetUp → Note
-answer_note n Done = Nothing
-answer_note n (Refused why) = NotSetUp n (number_of why)
+unfoldable pub answer_note : ℕ → Result (Unit {0}) Refusal → Note
+answer_note n (Ok tt) = Nothing
+answer_note n (Err why) = NotSetUp n (number_of why)
 
 -- after n records, at an offset: the file ended there, or what stands there is no record, and the number says why
 unfoldable pub ended_at : Yard → ℕ → ℕ → ℕ → Given Final

@@ -13,24 +13,23 @@ use Rattle.records.specs.ExactTime.{bit_time, exactly, moment_of, E_first}
 use Rattle.records.specs.Sound.{sound_group, sound}
 use Rattle.setup.specs.SetUp.{fresh_group, fresh_stream, group_set_up, stream_set_up}
 use Rattle.records.specs.declared.Group.{Group}
-use Rattle.setup.specs.declared.GroupSetUp.TheVariants as group
-use Rattle.setup.specs.declared.StreamSetUp.TheVariants as stream
 use Rattle.records.proofs.Integers.{opposite_above, opposite_below}
 use Rattle.records.proofs.ExactTime.{exactly_of, part_of}
 use Rattle.records.proofs.Soundness.{group_ok, group_sound, bucket_sound, sound_of}
+use Rattle.std.proofs.Common.{Ok, Err}
 
 -- ---- a group
 module _ (c M : ℕ) where
-  pub class_out : in_range Class c ≡ false → group_set_up c M ≡ group.Refused ClassRange
+  pub class_out : in_range Class c ≡ false → group_set_up c M ≡ Err ClassRange
   unfolding group_set_up
   class_out e = simp e
 
   module _ (h : in_range Class c ≡ true) where
-    pub residence_out : in_range Residence M ≡ false → group_set_up c M ≡ group.Refused ResidenceRange
+    pub residence_out : in_range Residence M ≡ false → group_set_up c M ≡ Err ResidenceRange
     unfolding group_set_up
     residence_out e = simp (h, e)
 
-    pub group_done : in_range Residence M ≡ true → group_set_up c M ≡ group.Done (fresh_group c M)
+    pub group_done : in_range Residence M ≡ true → group_set_up c M ≡ Ok (fresh_group c M)
     unfolding group_set_up
     group_done e = simp (h, e)
 
@@ -49,30 +48,30 @@ module _ (c M : ℕ) where
 
 -- ---- a stream in the group i, whose record is g
 module _ (i : ℕ) (g : Group) (r b : ℕ) where
-  pub group_out : in_range GroupId i ≡ false → stream_set_up i g r b ≡ stream.Refused NoGroup
+  pub group_out : in_range GroupId i ≡ false → stream_set_up i g r b ≡ Err NoGroup
   unfolding stream_set_up
   group_out e = simp e
 
-  pub group_unused : g.used ≡ false → stream_set_up i g r b ≡ stream.Refused NoGroup
+  pub group_unused : g.used ≡ false → stream_set_up i g r b ≡ Err NoGroup
   unfolding stream_set_up
   group_unused e = simp (e, and_false)
 
   module _ (k : in_range GroupId i ≡ true) (u : g.used ≡ true) where
-    pub group_unsound : sound_group g ≡ false → stream_set_up i g r b ≡ stream.Refused Unsound
+    pub group_unsound : sound_group g ≡ false → stream_set_up i g r b ≡ Err Unsound
     unfolding stream_set_up
     group_unsound e = simp (k, u, e)
 
     module _ (s : sound_group g ≡ true) where
-      pub rate_out : in_range StreamRate r ≡ false → stream_set_up i g r b ≡ stream.Refused RateRange
+      pub rate_out : in_range StreamRate r ≡ false → stream_set_up i g r b ≡ Err RateRange
       unfolding stream_set_up
       rate_out e = simp (k, u, s, e)
 
       module _ (f : in_range StreamRate r ≡ true) where
-        pub burst_out : in_range Burst b ≡ false → stream_set_up i g r b ≡ stream.Refused BurstRange
+        pub burst_out : in_range Burst b ≡ false → stream_set_up i g r b ≡ Err BurstRange
         unfolding stream_set_up
         burst_out e = simp (k, u, s, f, e)
 
-        pub stream_done : in_range Burst b ≡ true → stream_set_up i g r b ≡ stream.Done (fresh_stream i r b)
+        pub stream_done : in_range Burst b ≡ true → stream_set_up i g r b ≡ Ok (fresh_stream i r b)
         unfolding stream_set_up
         stream_done e = simp (k, u, s, f, e)
 

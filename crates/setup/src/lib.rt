@@ -10,29 +10,17 @@ ghost use Rattle.setup.specs.SetUp.{fresh_stream, group_set_up, stream_set_up};
 use quantity::{Bits, Item, Rate, Refusal, TICKS_PER_SECOND, Ticks, in_range};
 use records::{Group, Moment, Regulator, Stream, sound_group};
 
-#[derive(Clone, Copy, Drop)]
-pub enum GroupSetUp {
-    Done(Group),
-    Refused(Refusal),
-}
-
-#[derive(Clone, Copy, Drop)]
-pub enum StreamSetUp {
-    Done(Stream),
-    Refused(Refusal),
-}
-
 // A group of a class and a residence limit.
-pub fn set_up_group(class: u8, residence: Ticks) -> GroupSetUp
+pub fn set_up_group(class: u8, residence: Ticks) -> Result<Group, Refusal>
     ensures { result ≡ group_set_up class residence.0 }
 {
     if !in_range(Item::Class, class as u64) {
-        return GroupSetUp::Refused(Refusal::ClassRange);
+        return Err(Refusal::ClassRange);
     }
     if !in_range(Item::Residence, residence.0) {
-        return GroupSetUp::Refused(Refusal::ResidenceRange);
+        return Err(Refusal::ResidenceRange);
     }
-    GroupSetUp::Done(Group {
+    Ok(Group {
         used: true,
         class,
         residence,
@@ -84,24 +72,24 @@ fn fresh_stream(id: u8, rate: Rate, burst: Bits) -> Stream
 }
 
 // A stream of a rate and a burst in the group `id`, whose record comes with it.
-pub fn set_up_stream(id: u8, group: Group, rate: Rate, burst: Bits) -> StreamSetUp
+pub fn set_up_stream(id: u8, group: Group, rate: Rate, burst: Bits) -> Result<Stream, Refusal>
     ensures { result ≡ stream_set_up id group rate.0 burst.0 }
 {
     let used = group.used;
     if !in_range(Item::GroupId, id as u64) {
-        return StreamSetUp::Refused(Refusal::NoGroup);
+        return Err(Refusal::NoGroup);
     }
     if !used {
-        return StreamSetUp::Refused(Refusal::NoGroup);
+        return Err(Refusal::NoGroup);
     }
     if !sound_group(group) {
-        return StreamSetUp::Refused(Refusal::Unsound);
+        return Err(Refusal::Unsound);
     }
     if !in_range(Item::StreamRate, rate.0) {
-        return StreamSetUp::Refused(Refusal::RateRange);
+        return Err(Refusal::RateRange);
     }
     if !in_range(Item::Burst, burst.0) {
-        return StreamSetUp::Refused(Refusal::BurstRange);
+        return Err(Refusal::BurstRange);
     }
-    StreamSetUp::Done(fresh_stream(id, rate, burst))
+    Ok(fresh_stream(id, rate, burst))
 }

@@ -15,11 +15,10 @@ use Rattle.records.specs.declared.Stream.{Stream}
 use Rattle.records.proofs.Integers.{sum, difference, same, is_lt, is_not_lt}
 use Rattle.records.proofs.ExactTime.{before_first}
 use Rattle.admission.specs.Tests.{tested}
-use Rattle.admission.specs.declared.Tested.{Tested}
-use Rattle.admission.specs.declared.Tested.TheVariants.{Refused, Charged}
 use Rattle.admission.proofs.Tests.{test_10, test_9, Passes, Said, said}
 use Rattle.shaper.specs.Frame.{S, F, E_after, discarded, released, settled, process_frame}
 use Rattle.shaper.specs.Numbers.{refused, after_tests, judged}
+use Rattle.std.proofs.Common.{Result, Ok, Err}
 
 -- ---- E after a release at T, before F and from F on
 module _ (r : ℕ) (E : ℤ) (b L T : ℕ) (full : shortfall (F E b) ≡ 0) where
@@ -45,11 +44,11 @@ module _ (s : Stream) (g : Group) (L A T : ℕ) where
 
 -- ---- after the tests a frame is refused, or processed
 module _ (s : Stream) (g : Group) (n A : ℕ) where
-  pub test_refuses : {why : Refusal} → tested s g n A ≡ Refused why → judged s g n A ≡ refused s g why
+  pub test_refuses : {why : Refusal} → tested s g n A ≡ Err why → judged s g n A ≡ refused s g why
   unfolding judged after_tests
   test_refuses e = ap (after_tests s g A) e
 
-  pub test_charges : {L : Bits} → tested s g n A ≡ Charged L → judged s g n A ≡ process_frame s g L.0 A
+  pub test_charges : {L : Bits} → tested s g n A ≡ Ok L → judged s g n A ≡ process_frame s g L.0 A
   unfolding judged after_tests
   test_charges e = ap (after_tests s g A) e
 
@@ -67,6 +66,6 @@ pub verdict : (s : Stream) (g : Group) (n A : ℕ) → Verdict s g n A
 unfolding Said
 verdict s g n A = by (tested s g n A) refl (said s g n A)
   where
-    by : (t : Tested) → tested s g n A ≡ t → Said s g n A t → Verdict s g n A
-    by (Refused why) e w = inl (why, test_refuses s g n A e, w)
-    by (Charged L) e w = inr (w.0, test_charges s g n A e ∙ ap (λ (l : ℕ). process_frame s g l A) w.1)
+    by : (t : Result Bits Refusal) → tested s g n A ≡ t → Said s g n A t → Verdict s g n A
+    by (Err why) e w = inl (why, test_refuses s g n A e, w)
+    by (Ok L) e w = inr (w.0, test_charges s g n A e ∙ ap (λ (l : ℕ). process_frame s g l A) w.1)

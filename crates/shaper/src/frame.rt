@@ -10,15 +10,9 @@ ghost use Rattle.shaper.specs.Steps.{latest_release, BucketWorks, Works, StartsA
 
 use crate::Judged;
 use crate::exact::{first_tick, lasting, later, until};
-use admission::{Tested, test_frame};
+use admission::test_frame;
 use quantity::{Bits, Item, Rate, Refusal, Ticks};
 use records::{Answer, Group, Moment, Regulator, Stream};
-
-fn later_of(a: Ticks, b: Ticks) -> Ticks
-    ensures { result.0 ≡ max a.0 b.0 }
-{
-    if a.0 < b.0 { b } else { a }
-}
 
 // The bucket empty time and so many bits more: S for a frame's bits, F for the burst.
 fn charged_to(empty: Moment, rate: Rate, bits: Bits) -> Moment
@@ -76,7 +70,7 @@ fn eligibility_time(stream: Stream, group: Group, bits: Bits, arrival: Ticks) ->
     let regulator = stream.regulator;
     let time = group.time;
     let allowed = earliest_tick(rate, regulator, bits);
-    later_of(later_of(arrival, time), allowed)
+    arrival.max(time).max(allowed)
 }
 
 // The bucket empty time and the group time stay.
@@ -144,7 +138,7 @@ pub fn judge(stream: Stream, group: Group, octets: u16, arrival: Ticks) -> Judge
     ensures { result ≡ judged stream group octets arrival.0 }
 {
     match test_frame(stream, group, octets, arrival) {
-        Tested::Refused(why) => refused(stream, group, why),
-        Tested::Charged(bits) => process_frame(stream, group, bits, arrival),
+        Err(why) => refused(stream, group, why),
+        Ok(bits) => process_frame(stream, group, bits, arrival),
     }
 }

@@ -1,13 +1,13 @@
 -- Document 01, 'Numbers returned', for the table file: the number of each answer, and its values.
 -- An answer from 9 up has no value, and neither has 5.
-use Rattle.std.specs.Prelude.{ℕ}
+use Rattle.std.specs.Prelude.{ℕ, Ok, Err}
 use Rattle.std.proofs.Math.Option.{Option, none, some}
 use Rattle.quantity.specs.Numbers.{number_of}
 use Rattle.tablefile.specs.declared.Record.{Record}
 use Rattle.tablefile.specs.declared.Reading.{Reading}
 use Rattle.tablefile.specs.declared.Reading.TheVariants as reading
-use Rattle.tablefile.specs.declared.Written.{Written}
-use Rattle.tablefile.specs.declared.Written.TheVariants as written
+use Rattle.std.specs.declared.result.Result.{Result}
+use Rattle.quantity.specs.declared.Refusal.{Refusal}
 
 -- done
 abbrev pub done : ℕ
@@ -30,11 +30,11 @@ reading_values reading.NothingLeft = none
 reading_values (reading.Refused why) = none
 
 -- the number of what the writer did
-abbrev pub written_number : Written → ℕ
-written_number (written.Bytes n) = done
-written_number (written.Refused why) = number_of why
+abbrev pub written_number : Result ℕ Refusal → ℕ
+written_number (Ok n) = done
+written_number (Err why) = number_of why
 
 -- and its value: how many bytes were written
-abbrev pub written_values : Written → Option ℕ
-written_values (written.Bytes n) = some n
-written_values (written.Refused why) = none
+abbrev pub written_values : Result ℕ Refusal → Option ℕ
+written_values (Ok n) = some n
+written_values (Err why) = none

@@ -47,14 +47,6 @@ pub enum Reading {
     Refused(Refusal),
 }
 
-// What the writer did.
-#[derive(Clone, Copy, Drop)]
-pub enum Written {
-    // So many bytes stand at the front of the lent part.
-    Bytes(usize),
-    Refused(Refusal),
-}
-
 // The marks: two bytes before each record, which are also its letters.
 pub const GROUP_MARK: [u8; 2] = [0x47, 0x52];
 
@@ -99,12 +91,12 @@ pub fn reading_number(reading: Reading) -> u8
     }
 }
 
-// Document 01's number for what the writer did.
-pub fn written_number(written: Written) -> u8
+// Document 01's number for what the writer did: so many bytes stand at the front of the lent part, or it refused.
+pub fn written_number(written: Result<usize, Refusal>) -> u8
     ensures { result ≡ written_number written }
 {
     match written {
-        Written::Bytes(_) => 0,
-        Written::Refused(why) => quantity::refusal_number(why),
+        Ok(_) => 0,
+        Err(why) => quantity::refusal_number(why),
     }
 }

@@ -13,8 +13,8 @@ use Rattle.tablefile.specs.BigEndian.{byte_values, big_endian}
 use Rattle.tablefile.specs.Layout.{mark_width, mark, widths, kind_of, numbers_of, field_bytes, bytes_of, size}
 use Rattle.tablefile.proofs.Numbers.{length_big_endian, big_endian_parts}
 use Rattle.tablefile.proofs.Fields.{mark_is, mark_width_law, bytes_size}
-use Rattle.tablefile.specs.declared.Written.TheVariants.{Bytes, Refused}
 use Rattle.writer.specs.Writer.{write_of, write_to}
+use Rattle.std.proofs.Common.{Ok, Err}
 
 pub sets_append : (a b l : List ℕ) (i : ℕ) → sets (sets l i a) (i + length a) b ≡ sets l i (a ++ b)
 sets_append [] b l i = ap (λ (j : ℕ). sets l j b) (omega arith)
@@ -52,7 +52,7 @@ fields_stored (w ∷ ws) (v ∷ vs) l i =
     ∙ sets_append (big_endian w v) (field_bytes ws vs) l i
 
 module _ (r : Record) (l : List ℕ) where
-  pub no_room : length l < size (kind_of r) → record { answer = Refused NoRoom; part = l } ≡ write_to r l
+  pub no_room : length l < size (kind_of r) → record { answer = Err NoRoom; part = l } ≡ write_to r l
   unfolding write_to write_of
   no_room h = rw (lt-ltb (length l) (length (bytes_of r)) (rw (bytes_size r) h))
 
@@ -67,7 +67,7 @@ module _ (r : Record) (l : List ℕ) where
       ∙ sets_append m f l 0
 
   pub room : size (kind_of r) ≤ length l
-      → record { answer = Bytes (size (kind_of r)); part = sets l 0 (bytes_of r) } ≡ write_to r l
+      → record { answer = Ok (size (kind_of r)); part = sets l 0 (bytes_of r) } ≡ write_to r l
   unfolding write_to write_of
   room h =
       let n = length (bytes_of r) in

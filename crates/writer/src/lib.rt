@@ -9,7 +9,7 @@ ghost use Rattle.tablefile.specs.Layout.{mark_width, kind_of, bytes_of, size};
 ghost use Rattle.writer.specs.Writer.{write_to};
 
 use quantity::Refusal;
-use tablefile::{Record, Written};
+use tablefile::Record;
 
 // A number stored in so many bits from a place on.
 fn put8(part: &mut [u8], at: usize, n: u8)
@@ -110,14 +110,14 @@ fn size_of(given: Record) -> usize
     }
 }
 
-// Writes a record to the front of the lent part. A part shorter than the record is refused, and stays as it is.
-pub fn write(given: Record, part: &mut [u8]) -> Written
+// Writes a record to the front of the lent part, and gives the number of its bytes. A part shorter than the record is refused, and stays as it is.
+pub fn write(given: Record, part: &mut [u8]) -> Result<usize, Refusal>
     ensures { record { answer = result; part = part.new } ≡ write_to given part.old }
 {
     let size = size_of(given);
     if part.len() < size {
-        return Written::Refused(Refusal::NoRoom);
+        return Err(Refusal::NoRoom);
     }
     put_record(given, part);
-    Written::Bytes(size)
+    Ok(size)
 }

@@ -3,10 +3,10 @@ use mathlib.Core.Path.{sym, ap, ◌∙◌}
 use Rattle.calls.specs.Numbers.{set_up_number}
 use Rattle.calls.proofs.set_up_number.Goals as goal
 
-pub returns-in-Done : goal.returns-in-Done
+pub returns-in-Ok : goal.returns-in-Ok
 unfolding set_up_number
-returns-in-Done c = sym (ap set_up_number c.in-Done.is)
+returns-in-Ok c = sym (ap set_up_number c.in-Ok.is)
 
-pub returns-in-Refused : goal.returns-in-Refused
+pub returns-in-Err : goal.returns-in-Err
 unfolding set_up_number
-returns-in-Refused c = c.refusal_number.ensures ∙ sym (ap set_up_number c.in-Refused.is)
+returns-in-Err c = c.refusal_number.ensures ∙ sym (ap set_up_number c.in-Err.is)

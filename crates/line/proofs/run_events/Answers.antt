@@ -31,22 +31,22 @@ bounds-ids-next c =
 
 pub offset_bounds-streams-at : goal.offset_bounds-streams-at
 offset_bounds-streams-at c =
-    let at_stream : c.place_of-at.result < 64 = stream_found _ _ c.place_of-at.ensures in
+    let at_stream : c.place_of-at.result < 64 = stream_found _ _ c.place_of-at.ensures.place in
     omega (arith, at_stream)
 
 pub bounds-streams-at : goal.bounds-streams-at
 bounds-streams-at c =
-    let at_stream : c.place_of-at.result < 64 = stream_found _ _ c.place_of-at.ensures in
+    let at_stream : c.place_of-at.result < 64 = stream_found _ _ c.place_of-at.ensures.place in
     at_stream
 
 pub offset_bounds-groups-of : goal.offset_bounds-groups-of
 offset_bounds-groups-of c =
-    let of_group : c.place_of-of.result < 16 = group_found _ _ c.place_of-of.ensures in
+    let of_group : c.place_of-of.result < 16 = group_found _ _ c.place_of-of.ensures.place in
     omega (arith, of_group)
 
 pub bounds-groups-of : goal.bounds-groups-of
 bounds-groups-of c =
-    let of_group : c.place_of-of.result < 16 = group_found _ _ c.place_of-of.ensures in
+    let of_group : c.place_of-of.result < 16 = group_found _ _ c.place_of-of.ensures.place in
     of_group
 
 pub offset_bounds-octets-next : goal.offset_bounds-octets-next
@@ -75,22 +75,22 @@ bounds-arrivals-next c =
 
 pub offset_bounds-streams-at-in-Arrival : goal.offset_bounds-streams-at-in-Arrival
 offset_bounds-streams-at-in-Arrival c =
-    let at_stream : c.place_of-at.result < 64 = stream_found _ _ c.place_of-at.ensures in
+    let at_stream : c.place_of-at.result < 64 = stream_found _ _ c.place_of-at.ensures.place in
     omega (arith, at_stream)
 
 pub bounds-streams-at-in-Arrival : goal.bounds-streams-at-in-Arrival
 bounds-streams-at-in-Arrival c =
-    let at_stream : c.place_of-at.result < 64 = stream_found _ _ c.place_of-at.ensures in
+    let at_stream : c.place_of-at.result < 64 = stream_found _ _ c.place_of-at.ensures.place in
     at_stream
 
 pub offset_bounds-groups-of-in-Arrival : goal.offset_bounds-groups-of-in-Arrival
 offset_bounds-groups-of-in-Arrival c =
-    let of_group : c.place_of-of.result < 16 = group_found _ _ c.place_of-of.ensures in
+    let of_group : c.place_of-of.result < 16 = group_found _ _ c.place_of-of.ensures.place in
     omega (arith, of_group)
 
 pub bounds-groups-of-in-Arrival : goal.bounds-groups-of-in-Arrival
 bounds-groups-of-in-Arrival c =
-    let of_group : c.place_of-of.result < 16 = group_found _ _ c.place_of-of.ensures in
+    let of_group : c.place_of-of.result < 16 = group_found _ _ c.place_of-of.ensures.place in
     of_group
 
 pub overflow_cast-next : goal.overflow_cast-next
@@ -102,7 +102,7 @@ overflow_cast-next c =
 pub settle-requires : goal.settle-requires
 settle-requires c =
     let here : let l = c.loop-stop in let a = c.args in Turn (record { arrivals = a.arrivals.now; ids = a.ids.now; octets = a.octets.now; rate = a.rate.0 }) a.budget (record { bridge = a.bridge; waiting = a.waiting; next = a.start; free = a.free.0; events = 0; picks = 0; answers = a.answers.now; picked = a.picked.now; moments = a.moments.now }) (record { bridge = record { groups = l.groups; streams = l.streams }; waiting = lists l.times l.handles l.bits l.fills; next = l.next; free = l.free_at; events = l.events; picks = l.picks; answers = l.answers; picked = l.picked; moments = l.moments }) l.firsts l.places c.next_step-step.result = turn _ _ _ _ _ _ c.loop-stop.invariant _ c.soonest.ensures _ c.next_step-step.ensures in
-    (c.loop-stop.invariant.keeps, may_settle here c.in-Arrival.is _ _ c.place_of-at.ensures c.place_of-of.ensures _ c.judge_at-judged.ensures)
+    (c.loop-stop.invariant.keeps, may_settle here c.in-Arrival.is _ _ c.place_of-at.ensures.place c.place_of-of.ensures.place _ c.judge_at-judged.ensures)
 
 pub bounds-answers-next : goal.bounds-answers-next
 bounds-answers-next c =
@@ -131,7 +131,7 @@ loop-stop-smaller-in-Arrival c =
 pub loop-stop-preserved-in-Arrival : goal.loop-stop-preserved-in-Arrival
 loop-stop-preserved-in-Arrival c =
     let here : let l = c.loop-stop in let a = c.args in Turn (record { arrivals = a.arrivals.now; ids = a.ids.now; octets = a.octets.now; rate = a.rate.0 }) a.budget (record { bridge = a.bridge; waiting = a.waiting; next = a.start; free = a.free.0; events = 0; picks = 0; answers = a.answers.now; picked = a.picked.now; moments = a.moments.now }) (record { bridge = record { groups = l.groups; streams = l.streams }; waiting = lists l.times l.handles l.bits l.fills; next = l.next; free = l.free_at; events = l.events; picks = l.picks; answers = l.answers; picked = l.picked; moments = l.moments }) l.firsts l.places c.next_step-step.result = turn _ _ _ _ _ _ c.loop-stop.invariant _ c.soonest.ensures _ c.next_step-step.ensures in
-    turn_arrives here c.in-Arrival.is _ _ c.place_of-at.ensures c.place_of-of.ensures _ c.judge_at-judged.ensures _ _ c.settle.ensures.0 _ _ c.settle.ensures.1
+    turn_arrives here c.in-Arrival.is _ _ c.place_of-at.ensures.place c.place_of-of.ensures.place _ c.judge_at-judged.ensures _ _ c.settle.ensures.0 _ _ c.settle.ensures.1
 
 pub dequeue-left-requires : goal.dequeue-left-requires
 dequeue-left-requires c =

@@ -7,5 +7,5 @@ use Rattle.listing_part.proofs.carry_frame.Goals as goal
 pub returns : goal.returns
 unfolding frame_carried
 returns c =
-    ap (λ (t : Answered). record { answer = t; stream = c.judge_at-judged.result.stream; group = c.judge_at-judged.result.group }) c.frame_answer-answer.ensures
+    ap (λ (t : Answered). record { answer = t; stream = c.judge_at-judged.result.stream; group = c.judge_at-judged.result.group }) c.frame_answer.ensures
     ∙ ap frame_carried c.judge_at-judged.ensures

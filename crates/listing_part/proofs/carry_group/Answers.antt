@@ -8,5 +8,5 @@ pub returns : goal.returns
 unfolding group_carried
 returns c =
     let a = c.args in
-    ap (λ (t : Answered). record { answer = t; stream = a.stream; group = c.place_group-placed.result.group }) c.set_up_answer-answer.ensures
+    ap (λ (t : Answered). record { answer = t; stream = a.stream; group = c.place_group-placed.result.after }) c.set_up_answer.ensures
     ∙ ap (group_carried a.stream) c.place_group-placed.ensures

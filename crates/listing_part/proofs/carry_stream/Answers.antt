@@ -8,5 +8,5 @@ pub returns : goal.returns
 unfolding stream_carried
 returns c =
     let a = c.args in
-    ap (λ (t : Answered). record { answer = t; stream = c.place_stream-placed.result.stream; group = a.group }) c.set_up_answer-answer.ensures
+    ap (λ (t : Answered). record { answer = t; stream = c.place_stream-placed.result.after; group = a.group }) c.set_up_answer.ensures
     ∙ ap (stream_carried a.group) c.place_stream-placed.ensures

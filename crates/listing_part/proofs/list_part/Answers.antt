@@ -3,8 +3,6 @@ use mathlib.Core.Path.{sym, ◌∙◌}
 use Prim.Native.Nat.{◌-◌, ◌≤◌, ◌<◌}
 use native.Mathlib.Omega.{arith}
 use lib.ListN.{length}
-use Rattle.quantity.specs.declared.Item.TheVariants.{GroupId, StreamId}
-use Rattle.quantity.proofs.Ranges.{place_found}
 use Rattle.listing_part.proofs.Stepping.{Going, going}
 use Rattle.listing_part.proofs.Calls.{call_after, call_replies}
 use Rattle.listing_part.proofs.Underway.{starts, stops, goes_further, turns}
@@ -17,46 +15,6 @@ pub returns-in-Ends : goal.returns-in-Ends
 returns-in-Ends c =
     let l = c.loop-why in
     stops _ _ _ _ _ _ _ _ _ l.invariant _ _ c.read-reading.ensures (sym c.in-Ends.is ∙ c.next_step-step.ensures)
-
-pub offset_bounds-streams-at : goal.offset_bounds-streams-at
-offset_bounds-streams-at c =
-    let stream_in : c.place_of-at.result < 64 = omega (arith, place_found StreamId _ _ c.place_of-at.ensures) in
-    omega (arith, stream_in)
-
-pub bounds-streams-at : goal.bounds-streams-at
-bounds-streams-at c =
-    let stream_in : c.place_of-at.result < 64 = omega (arith, place_found StreamId _ _ c.place_of-at.ensures) in
-    stream_in
-
-pub offset_bounds-groups-of : goal.offset_bounds-groups-of
-offset_bounds-groups-of c =
-    let group_in : c.place_of-of.result < 16 = omega (arith, place_found GroupId _ _ c.place_of-of.ensures) in
-    omega (arith, group_in)
-
-pub bounds-groups-of : goal.bounds-groups-of
-bounds-groups-of c =
-    let group_in : c.place_of-of.result < 16 = omega (arith, place_found GroupId _ _ c.place_of-of.ensures) in
-    group_in
-
-pub offset_bounds-groups-of-in-Goes : goal.offset_bounds-groups-of-in-Goes
-offset_bounds-groups-of-in-Goes c =
-    let group_in : c.place_of-of.result < 16 = omega (arith, place_found GroupId _ _ c.place_of-of.ensures) in
-    omega (arith, group_in)
-
-pub bounds-groups-of-in-Goes : goal.bounds-groups-of-in-Goes
-bounds-groups-of-in-Goes c =
-    let group_in : c.place_of-of.result < 16 = omega (arith, place_found GroupId _ _ c.place_of-of.ensures) in
-    group_in
-
-pub offset_bounds-streams-at-in-Goes : goal.offset_bounds-streams-at-in-Goes
-offset_bounds-streams-at-in-Goes c =
-    let stream_in : c.place_of-at.result < 64 = omega (arith, place_found StreamId _ _ c.place_of-at.ensures) in
-    omega (arith, stream_in)
-
-pub bounds-streams-at-in-Goes : goal.bounds-streams-at-in-Goes
-bounds-streams-at-in-Goes c =
-    let stream_in : c.place_of-at.result < 64 = omega (arith, place_found StreamId _ _ c.place_of-at.ensures) in
-    stream_in
 
 pub overflow_add-number : goal.overflow_add-number
 overflow_add-number c =
@@ -73,7 +31,7 @@ pub loop-why-preserved : goal.loop-why-preserved
 loop-why-preserved c =
     let goes : let l = c.loop-why in Going c.read-reading.result l.number (length l.out - l.written) c.in-Goes.record c.in-Goes.next = going _ _ _ _ _ (sym c.in-Goes.is ∙ c.next_step-step.ensures) in
     turns _ _ _ _ _ _ _ _ _ c.loop-why.invariant _ c.read-reading.ensures _ _ goes
-    _ (call_after _ _ _ _ _ _ c.place_of-at.ensures c.stream_of.ensures c.place_of-of.ensures c.group_of.ensures _ c.carry_out-carried.ensures)
+    _ (call_after _ _ _ _ _ _ c.place_of-at.ensures.place c.stream_of.ensures c.place_of-of.ensures.place c.group_of.ensures _ c.carry_out-carried.ensures)
     _ c.letters.ensures
-    _ (call_replies _ _ _ _ _ _ c.place_of-at.ensures c.stream_of.ensures c.place_of-of.ensures c.group_of.ensures _ c.carry_out-carried.ensures)
+    _ (call_replies _ _ _ _ _ _ c.place_of-at.ensures.place c.stream_of.ensures c.place_of-of.ensures.place c.group_of.ensures _ c.carry_out-carried.ensures)
     c.put_line-written.ensures

@@ -5,7 +5,7 @@ use Rattle.listing_part.proofs.Underway.{Underway}
 use Rattle.listing_part.proofs.list_part.Given as goal
 
 abbrev pub invariant-loop-why : goal.invariant-loop-why
-invariant-loop-why l = Underway l.bytes l.initial.out (record { groups = l.initial.groups; streams = l.initial.streams }) l.initial.number (record { groups = l.groups; streams = l.streams }) l.number l.place l.written l.out
+invariant-loop-why l = Underway l.bytes l.initial.out l.initial.bridge l.initial.number l.bridge l.number l.place l.written l.out
 
 abbrev pub decreases-loop-why : goal.decreases-loop-why
 decreases-loop-why l = length l.bytes - l.place

@@ -1,17 +1,11 @@
--- `quantity::in_range` meets its contract: below the range, and from its low end on. Assumes nothing.
-use mathlib.Core.Path.{sym, ap, ◌∙◌}
-use Prim.Native.Nat.{ℕ}
-use native.Mathlib.Omega.{arith}
-use lib.Dec.{leb}
-use Rattle.quantity.proofs.Ranges.{too_low, from_least}
+-- `quantity::in_range` meets its contract. Assumes nothing.
+use mathlib.Core.Path.{◌∙◌}
+use Rattle.quantity.specs.Ranges.{in_range}
+use Rattle.quantity.proofs.Ranges.{contained}
 use Rattle.quantity.proofs.in_range.Goals as goal
 
-pub returns-then-n-least : goal.returns-then-n-least
-returns-then-n-least c =
-    let a = c.args in
-    sym (too_low a.item a.n (omega arith))
-
 pub returns : goal.returns
+unfolding in_range
 returns c =
-    let a = c.args in
-    ap (λ (m : ℕ). leb a.n m) c.most.ensures ∙ from_least a.item a.n (omega arith)
+    let r = c.range_of.ensures in
+    c.contains.ensures.value ∙ contained _ _ _ _ r.0 r.1.0 r.1.1

@@ -14,9 +14,9 @@ pub record Short (bytes arrivals ids octets : List ℕ) : Type 0 where
 
 abbrev pub invariant-loop-why : goal.invariant-loop-why
 invariant-loop-why l = Gathers l.bytes
-    (record { at = l.initial.at; records = l.initial.records; count = l.initial.count; bridge = record { groups = l.initial.groups; streams = l.initial.streams }; arrivals = l.initial.arrivals; ids = l.initial.ids; octets = l.initial.octets })
+    (record { at = l.initial.at; records = l.initial.records; count = l.initial.count; bridge = l.initial.bridge; arrivals = l.initial.arrivals; ids = l.initial.ids; octets = l.initial.octets })
     l.answer
-    (record { at = l.at; records = l.records; count = l.count; bridge = record { groups = l.groups; streams = l.streams }; arrivals = l.arrivals; ids = l.ids; octets = l.octets })
+    (record { at = l.at; records = l.records; count = l.count; bridge = l.bridge; arrivals = l.arrivals; ids = l.ids; octets = l.octets })
     × Short l.bytes l.initial.arrivals l.initial.ids l.initial.octets
 
 abbrev pub decreases-loop-why : goal.decreases-loop-why

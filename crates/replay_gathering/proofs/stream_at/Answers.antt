@@ -3,10 +3,10 @@ use mathlib.Core.Path.{sym, ap, ◌∙◌}
 use Rattle.replay_gathering.specs.Steps.{stream_of}
 use Rattle.replay_gathering.proofs.stream_at.Goals as goal
 
-pub returns-in-Group : goal.returns-in-Group
+pub returns-in-Group-clause-place : goal.returns-in-Group-clause-place
 unfolding stream_of
-returns-in-Group c = sym (ap stream_of c.in-Group.is)
+returns-in-Group-clause-place c = sym (ap stream_of c.in-Group.is)
 
-pub returns-in-Stream : goal.returns-in-Stream
+pub returns-in-Stream-clause-place : goal.returns-in-Stream-clause-place
 unfolding stream_of
-returns-in-Stream c = c.place_of.ensures ∙ sym (ap stream_of c.in-Stream.is)
+returns-in-Stream-clause-place c = c.place_of.ensures.place ∙ sym (ap stream_of c.in-Stream.is)

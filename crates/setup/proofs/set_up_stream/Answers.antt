@@ -2,9 +2,9 @@
 use mathlib.Core.Path.{sym, ap, ◌∙◌}
 use Rattle.quantity.proofs.Booleans.{refuted, confirmed}
 use Rattle.records.specs.declared.Stream.{Stream}
-use Rattle.setup.specs.declared.StreamSetUp.TheVariants.{Done}
 use Rattle.setup.proofs.Fresh.{group_out, group_unused, group_unsound, rate_out, burst_out, stream_done}
 use Rattle.setup.proofs.set_up_stream.Goals as goal
+use Rattle.std.proofs.Common.{Ok}
 
 pub returns-then-not-in_range : goal.returns-then-not-in_range
 returns-then-not-in_range c =
@@ -34,5 +34,5 @@ returns-then-not-in_range-3 c =
 pub returns : goal.returns
 returns c =
     let a = c.args in
-    ap (λ (x : Stream). Done x) c.fresh_stream.ensures
+    ap (λ (x : Stream). Ok x) c.fresh_stream.ensures
     ∙ sym (stream_done a.id a.group a.rate.0 a.burst.0 (confirmed c.in_range.ensures c.if-not-in_range.false) c.if-not-used.false (confirmed c.sound_group.ensures c.if-not-sound_group.false) (confirmed c.in_range-2.ensures c.if-not-in_range-2.false) (confirmed c.in_range-3.ensures c.if-not-in_range-3.false))

@@ -9,15 +9,15 @@ pub process_frame-requires : goal.process_frame-requires
 unfolding Said
 process_frame-requires c =
     let a = c.args in
-    let w = subst (Said a.stream a.group a.octets a.arrival.0) (sym c.test_frame.ensures ∙ c.in-Charged.is) (said a.stream a.group a.octets a.arrival.0) in
+    let w = subst (Said a.stream a.group a.octets a.arrival.0) (sym c.test_frame.ensures ∙ c.in-Ok.is) (said a.stream a.group a.octets a.arrival.0) in
     (w.0.records, ap (λ (L : ℕ). above_burst a.stream.regulator L) w.1 ∙ w.0.burst, w.0.arrival)
 
-pub returns-in-Refused : goal.returns-in-Refused
-returns-in-Refused c =
+pub returns-in-Err : goal.returns-in-Err
+returns-in-Err c =
     let a = c.args in
-    c.refused.ensures ∙ sym (test_refuses a.stream a.group a.octets a.arrival.0 (sym c.test_frame.ensures ∙ c.in-Refused.is))
+    c.refused.ensures ∙ sym (test_refuses a.stream a.group a.octets a.arrival.0 (sym c.test_frame.ensures ∙ c.in-Err.is))
 
-pub returns-in-Charged : goal.returns-in-Charged
-returns-in-Charged c =
+pub returns-in-Ok : goal.returns-in-Ok
+returns-in-Ok c =
     let a = c.args in
-    c.process_frame.ensures ∙ sym (test_charges a.stream a.group a.octets a.arrival.0 (sym c.test_frame.ensures ∙ c.in-Charged.is))
+    c.process_frame.ensures ∙ sym (test_charges a.stream a.group a.octets a.arrival.0 (sym c.test_frame.ensures ∙ c.in-Ok.is))
