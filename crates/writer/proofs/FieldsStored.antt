@@ -5,8 +5,10 @@ use Prim.Native.Nat.{ℕ, suc, ◌+◌, ◌/◌, ◌%◌, ◌^◌, ◌≤◌, �
 use native.Mathlib.Nat.{mod-eq_of_lt, div-one, zero-add}
 use native.Mathlib.Omega.{arith}
 use borrow.Author.Tests.{lt-ltb, le-ltb}
-use lib.ListN.{length, get_or, set}
-use lib.Seq.{sets, sets-eq}
+use lib.ListN.{length, get_or, set, take, drop}
+use lib.Seq.{sets, sets-eq, drop-drop}
+use Rattle.std.proofs.lemmas.List.{append_assoc}
+use borrow.Rule.Slice.PartMut.{put_mid}
 use Rattle.quantity.specs.declared.Refusal.TheVariants.{NoRoom}
 use Rattle.tablefile.specs.declared.Record.{Record}
 use Rattle.tablefile.specs.BigEndian.{byte_values, big_endian}
@@ -14,27 +16,40 @@ use Rattle.tablefile.specs.Layout.{mark_width, mark, widths, kind_of, numbers_of
 use Rattle.tablefile.proofs.Numbers.{length_big_endian, big_endian_parts}
 use Rattle.tablefile.proofs.Fields.{mark_is, mark_width_law, bytes_size}
 use Rattle.writer.specs.Writer.{write_of, write_to}
-use Rattle.std.proofs.Common.{Ok, Err}
+use Rattle.std.proofs.Common.{Ok, Err, ◌-◌, w16, w32, w64}
+use Rattle.std.specs.Int.{to_be_bytes}
 
 pub sets_append : (a b l : List ℕ) (i : ℕ) → sets (sets l i a) (i + length a) b ≡ sets l i (a ++ b)
 sets_append [] b l i = ap (λ (j : ℕ). sets l j b) (omega arith)
 sets_append (x ∷ a) b l i =
     ap (λ (j : ℕ). sets (sets (set l i x) (suc i) a) j b) (omega arith) ∙ sets_append a b (set l i x) (suc i)
 
+-- bytes copied into a part from a place on, where they have room, are stored there
+pub copied_stored : (i n : ℕ) (l bs : List ℕ) → length bs ≡ n → i + n ≤ length l → put_mid i (i + n - i) l bs ≡ sets l i bs
+copied_stored i n l bs e h =
+    let k : i + n - i ≡ length bs = omega (arith, e) in
+    ap (λ (m : ℕ). take i l ++ (bs ++ drop m (drop i l))) k
+    ∙ ap (λ (t : List ℕ). take i l ++ (bs ++ t)) (drop-drop (length bs) i l)
+    ∙ sym (append_assoc (take i l) bs (drop (i + length bs) l))
+    ∙ sym (sets-eq bs l i (omega (arith, e, h)))
+
 -- a field of one byte is one store
 pub sets_byte : (l : List ℕ) (i n : ℕ) → n < byte_values → set l i n ≡ sets l i (big_endian 1 n)
 unfolding big_endian
 sets_byte l i n h = rw (div-one n, mod-eq_of_lt h)
 
--- a number is stored by its quotient and then its remainder
-pub sets_parts : (l : List ℕ) (i a b n : ℕ) → n < byte_values ^ (a + b)
-    → sets (sets l i (big_endian a (n / byte_values ^ b))) (i + a) (big_endian b (n % byte_values ^ b)) ≡ sets l i (big_endian (a + b) n)
-sets_parts l i a b n h =
-    let high = big_endian a (n / byte_values ^ b) in
-    let low = big_endian b (n % byte_values ^ b) in
-    ap (λ (w : ℕ). sets (sets l i high) (i + w) low) (sym (length_big_endian a (n / byte_values ^ b)))
-    ∙ sets_append high low l i
-    ∙ ap (sets l i) (big_endian_parts a b n h)
+-- the library's bytes of a number are the document's, in each width that a field has
+pub two_bytes : (n : ℕ) → to_be_bytes w16 n ≡ big_endian 2 n
+unfolding big_endian
+two_bytes n = rw (div-one n) refl
+
+pub four_bytes : (n : ℕ) → to_be_bytes w32 n ≡ big_endian 4 n
+unfolding big_endian
+four_bytes n = rw (div-one n) refl
+
+pub eight_bytes : (n : ℕ) → to_be_bytes w64 n ≡ big_endian 8 n
+unfolding big_endian
+eight_bytes n = rw (div-one n) refl
 
 -- numbers stored in fields of these widths, the first of them at a place
 abbrev pub stores : List ℕ → ℕ → List ℕ → List ℕ → List ℕ
@@ -73,11 +88,9 @@ module _ (r : Record) (l : List ℕ) where
       let n = length (bytes_of r) in
       rw (le-ltb (length l) n (rw (bytes_size r) h), ← bytes_size r, sets-eq (bytes_of r) l 0 (rw (zero-add, bytes_size r) h), zero-add n)
 
--- the same where the record is known as s, and its mark is two bytes of m
+-- the same where the record is known as s, and its mark as m
 pub all_stored : (r s : Record) (m l : List ℕ) → r ≡ s → m ≡ mark (kind_of r)
-    → stores (sets l 0 (get_or m 0 0 ∷ get_or m 1 0 ∷ [])) mark_width (widths (kind_of s)) (numbers_of s) ≡ sets l 0 (bytes_of r)
+    → stores (sets l 0 m) mark_width (widths (kind_of s)) (numbers_of s) ≡ sets l 0 (bytes_of r)
 all_stored r s m l e h =
-    let two : get_or m 0 0 ∷ get_or m 1 0 ∷ [] ≡ mark (kind_of r) =
-    ap (λ (x : List ℕ). get_or x 0 0 ∷ get_or x 1 0 ∷ []) h ∙ mark_is (kind_of r) in
-    ap (λ (x : List ℕ). stores (sets l 0 x) mark_width (widths (kind_of s)) (numbers_of s)) two
+    ap (λ (x : List ℕ). stores (sets l 0 x) mark_width (widths (kind_of s)) (numbers_of s)) h
     ∙ rw (← e) (marked_stored r l)
