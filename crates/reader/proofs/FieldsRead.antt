@@ -5,10 +5,12 @@ use Prim.Native.Nat.{ℕ, ◌+◌, ◌-◌, ◌≤◌, ◌<◌}
 use native.Mathlib.Nat.{add_assoc}
 use native.Mathlib.Omega.{arith}
 use borrow.Author.Tests.{lt-ltb, le-ltb}
-use lib.ListN.{length, drop, length-drop}
-use lib.Seq.{drop-drop}
+use lib.ListN.{length, take, drop, length-drop}
+use Rattle.std.specs.Int.{from_be_bytes}
+use Rattle.std.proofs.Common.{w16, w32, w64}
+use lib.Seq.{drop-drop, length-take-le}
 use Rattle.quantity.specs.declared.Refusal.TheVariants.{CutShort}
-use Rattle.tablefile.specs.BigEndian.{number_at}
+use Rattle.tablefile.specs.BigEndian.{number, number_at}
 use Rattle.tablefile.specs.Layout.{Kind, mark_width, widths, record_of, total, field_numbers, size}
 use Rattle.tablefile.specs.declared.Reading.TheVariants.{Found, Refused}
 use Rattle.reader.specs.Reader.{read_fields}
@@ -33,3 +35,49 @@ module _ (k : Kind) (l : List ℕ) (p : ℕ) where
   unfolding read_fields size
   found h =
       rw (le-ltb (length (drop (p + 2) l)) (total (widths k)) (rw length-drop (omega arith)), fields_at l p 2 (widths k))
+
+-- ---- the library's number of some bytes is the document's, in each width that a field has
+two : (bs : List ℕ) → length bs ≡ 2 → from_be_bytes w16 bs ≡ number bs
+unfolding number
+two (a ∷ b ∷ []) n = omega arith
+two [] n = absurd (omega (arith, n))
+two (a ∷ []) n = absurd (omega (arith, n))
+two (a ∷ b ∷ x ∷ bs) n = absurd (omega (arith, n))
+
+four : (bs : List ℕ) → length bs ≡ 4 → from_be_bytes w32 bs ≡ number bs
+unfolding number
+four (a ∷ b ∷ c ∷ d ∷ []) n = omega arith
+four [] n = absurd (omega (arith, n))
+four (a ∷ []) n = absurd (omega (arith, n))
+four (a ∷ b ∷ []) n = absurd (omega (arith, n))
+four (a ∷ b ∷ c ∷ []) n = absurd (omega (arith, n))
+four (a ∷ b ∷ c ∷ d ∷ x ∷ bs) n = absurd (omega (arith, n))
+
+eight : (bs : List ℕ) → length bs ≡ 8 → from_be_bytes w64 bs ≡ number bs
+unfolding number
+eight (a ∷ b ∷ c ∷ d ∷ e ∷ f ∷ g ∷ h ∷ []) n = omega arith
+eight [] n = absurd (omega (arith, n))
+eight (a ∷ []) n = absurd (omega (arith, n))
+eight (a ∷ b ∷ []) n = absurd (omega (arith, n))
+eight (a ∷ b ∷ c ∷ []) n = absurd (omega (arith, n))
+eight (a ∷ b ∷ c ∷ d ∷ []) n = absurd (omega (arith, n))
+eight (a ∷ b ∷ c ∷ d ∷ e ∷ []) n = absurd (omega (arith, n))
+eight (a ∷ b ∷ c ∷ d ∷ e ∷ f ∷ []) n = absurd (omega (arith, n))
+eight (a ∷ b ∷ c ∷ d ∷ e ∷ f ∷ g ∷ []) n = absurd (omega (arith, n))
+eight (a ∷ b ∷ c ∷ d ∷ e ∷ f ∷ g ∷ h ∷ x ∷ bs) n = absurd (omega (arith, n))
+
+module _ (l : List ℕ) (p : ℕ) where
+  taken : (w : ℕ) → p + w ≤ length l → length (take w (drop p l)) ≡ w
+  taken w m = length-take-le w (drop p l) (rw length-drop (omega arith))
+
+  pub in_two : p + 2 ≤ length l → from_be_bytes w16 (take 2 (drop p l)) ≡ number_at l p 2
+  unfolding number_at
+  in_two m = two (take 2 (drop p l)) (taken 2 m)
+
+  pub in_four : p + 4 ≤ length l → from_be_bytes w32 (take 4 (drop p l)) ≡ number_at l p 4
+  unfolding number_at
+  in_four m = four (take 4 (drop p l)) (taken 4 m)
+
+  pub in_eight : p + 8 ≤ length l → from_be_bytes w64 (take 8 (drop p l)) ≡ number_at l p 8
+  unfolding number_at
+  in_eight m = eight (take 8 (drop p l)) (taken 8 m)

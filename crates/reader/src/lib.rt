@@ -2,50 +2,21 @@
 // The records, their marks and their sizes are `tablefile`'s. Input lives with the programs.
 #![tactic(auto)]
 
-ghost use Rattle.std.specs.Prelude.{◌≡◌, ◌+◌, ◌≤◌, length, drop, get_or};
-ghost use Rattle.tablefile.specs.BigEndian.{number_at};
+ghost use Rattle.std.specs.Prelude.{◌≡◌, ◌+◌, ◌≤◌, length, take, drop, get_or};
 ghost use Rattle.tablefile.specs.Layout.{GR, GD, ST, FR, mark_width};
 ghost use Rattle.reader.specs.Reader.{is_mark, read_fields, read_at};
 
 use quantity::{Rate, Refusal, Ticks};
 use tablefile::{Reading, Record};
 
-// The number in so many bits from a place on. Four bytes at once, and eight as two halves: the compiler makes one load
-// of each.
-fn number8(bytes: &[u8], at: usize) -> u8
-    requires { at + 1 ≤ length bytes.now }
-    ensures { result ≡ number_at bytes.now at 1 }
+// The bytes of a field, from a place on.
+fn field<const N: usize>(bytes: &[u8], at: usize) -> [u8; N]
+    requires { at + N ≤ length bytes.now }
+    ensures { result ≡ take N (drop at bytes.now) }
 {
-    bytes[at]
-}
-
-fn number16(bytes: &[u8], at: usize) -> u16
-    requires { at + 2 ≤ length bytes.now }
-    ensures { result ≡ number_at bytes.now at 2 }
-{
-    let high = number8(bytes, at);
-    let low = number8(bytes, at + 1);
-    (high as u16) * 256 + low as u16
-}
-
-fn number32(bytes: &[u8], at: usize) -> u32
-    requires { at + 4 ≤ length bytes.now }
-    ensures { result ≡ number_at bytes.now at 4 }
-{
-    let first = number8(bytes, at);
-    let second = number8(bytes, at + 1);
-    let third = number8(bytes, at + 2);
-    let fourth = number8(bytes, at + 3);
-    (first as u32) * 16_777_216 + (second as u32) * 65_536 + (third as u32) * 256 + fourth as u32
-}
-
-fn number64(bytes: &[u8], at: usize) -> u64
-    requires { at + 8 ≤ length bytes.now }
-    ensures { result ≡ number_at bytes.now at 8 }
-{
-    let high = number32(bytes, at);
-    let low = number32(bytes, at + 4);
-    (high as u64) * 4_294_967_296 + low as u64
+    let mut field = [0; N];
+    field.copy_from_slice(&bytes[at..at + N]);
+    field
 }
 
 // Whether the two bytes at a place are this mark.
@@ -69,9 +40,9 @@ fn read_group(bytes: &[u8], place: usize) -> Reading
     }
     Reading::Found {
         record: Record::Group {
-            group: number8(bytes, place + 2),
-            class: number8(bytes, place + 3),
-            residence: Ticks(number64(bytes, place + 4)),
+            group: bytes[place + 2],
+            class: bytes[place + 3],
+            residence: Ticks(u64::from_be_bytes(field(bytes, place + 4))),
         },
         next: place + tablefile::GROUP_BYTES,
     }
@@ -86,8 +57,8 @@ fn read_group_default(bytes: &[u8], place: usize) -> Reading
     }
     Reading::Found {
         record: Record::GroupDefault {
-            group: number8(bytes, place + 2),
-            class: number8(bytes, place + 3),
+            group: bytes[place + 2],
+            class: bytes[place + 3],
         },
         next: place + tablefile::GROUP_DEFAULT_BYTES,
     }
@@ -102,10 +73,10 @@ fn read_stream(bytes: &[u8], place: usize) -> Reading
     }
     Reading::Found {
         record: Record::Stream {
-            stream: number8(bytes, place + 2),
-            group: number8(bytes, place + 3),
-            rate: Rate(number64(bytes, place + 4)),
-            burst: number32(bytes, place + 12),
+            stream: bytes[place + 2],
+            group: bytes[place + 3],
+            rate: Rate(u64::from_be_bytes(field(bytes, place + 4))),
+            burst: u32::from_be_bytes(field(bytes, place + 12)),
         },
         next: place + tablefile::STREAM_BYTES,
     }
@@ -120,9 +91,9 @@ fn read_frame(bytes: &[u8], place: usize) -> Reading
     }
     Reading::Found {
         record: Record::Frame {
-            stream: number8(bytes, place + 2),
-            octets: number16(bytes, place + 3),
-            arrival: Ticks(number64(bytes, place + 5)),
+            stream: bytes[place + 2],
+            octets: u16::from_be_bytes(field(bytes, place + 3)),
+            arrival: Ticks(u64::from_be_bytes(field(bytes, place + 5))),
         },
         next: place + tablefile::FRAME_BYTES,
     }

@@ -1,8 +1,13 @@
 -- `reader::read_stream` meets its contract: the length decides, and the fields stand where the layout has them.
 -- Assumes nothing.
+use mathlib.Core.Path.{ap, ◌∙◌}
+use Prim.Native.Nat.{◌+◌}
 use native.Mathlib.Omega.{arith}
+use Rattle.std.proofs.Common.{w16, w32, w64}
+use Rattle.std.specs.Int.{from_be_bytes}
+use Rattle.tablefile.proofs.Numbers.{number_one}
 use Rattle.tablefile.specs.Layout.{ST, total, size}
-use Rattle.reader.proofs.FieldsRead.{cut_short, found}
+use Rattle.reader.proofs.FieldsRead.{cut_short, found, in_two, in_four, in_eight}
 use Rattle.reader.proofs.read_stream.Goals as goal
 
 pub returns-then-bytes-place-lt-STREAM_BYTES : goal.returns-then-bytes-place-lt-STREAM_BYTES
@@ -15,5 +20,10 @@ pub returns : goal.returns
 unfolding total size
 returns c =
     let a = c.args in
-    rw (c.number8.ensures, c.number8-2.ensures, c.number64.ensures, c.number32.ensures)
+    rw (
+      ← number_one a.bytes.now (a.place + 2) (omega arith),
+      ← number_one a.bytes.now (a.place + 3) (omega arith),
+      c.from_be_bytes.ensures ∙ ap (λ bs. from_be_bytes w64 bs) c.field.ensures ∙ in_eight a.bytes.now (a.place + 4) (omega arith),
+      c.from_be_bytes-2.ensures ∙ ap (λ bs. from_be_bytes w32 bs) c.field-2.ensures ∙ in_four a.bytes.now (a.place + 12) (omega arith),
+    )
     (found ST a.bytes.now a.place (omega arith))
