@@ -24,10 +24,7 @@ fn is_marked(bytes: &[u8], place: usize, mark: [u8; 2]) -> bool
     requires { place + mark_width ≤ length bytes.now }
     ensures { result ≡ is_mark mark (get_or bytes.now place 0) (get_or bytes.now (place + 1) 0) }
 {
-    if bytes[place] == mark[0] {
-        return bytes[place + 1] == mark[1];
-    }
-    false
+    [bytes[place], bytes[place + 1]] == mark
 }
 
 // What stands at a place after the mark of each kind: a record, or one that is cut short.
