@@ -71,65 +71,66 @@ pub struct FrameTold {
 fn byte(n: u64) -> u8
     ensures { result ≡ min n most_of_byte }
 {
-    if n <= 255 { n as u8 } else { 255 }
+    u8::try_from(n).unwrap_or(u8::MAX)
 }
 
 // Octets beyond their field stay out of range.
 fn half(n: u64) -> u16
     ensures { result ≡ min n most_of_half }
 {
-    if n <= 65_535 { n as u16 } else { 65_535 }
+    u16::try_from(n).unwrap_or(u16::MAX)
 }
 
-fn group_of(g: GroupRecord) -> Group
-    ensures { result ≡ group_of g }
-{
-    Group {
-        used: g.used,
-        class: g.class,
-        residence: Ticks(g.residence),
-        time: Ticks(g.time),
-        last: Ticks(g.last),
-        discards: g.discards,
+impl From<GroupRecord> for Group {
+    ghost from_gives = { λ lent group. group ≡ group_of lent };
+
+    fn from(lent: GroupRecord) -> Group {
+        Group {
+            used: lent.used,
+            class: lent.class,
+            residence: Ticks(lent.residence),
+            time: Ticks(lent.time),
+            last: Ticks(lent.last),
+            discards: lent.discards,
+        }
     }
 }
 
-fn group_record(g: Group) -> GroupRecord
-    ensures { result ≡ group_record g }
-{
-    GroupRecord {
-        used: g.used,
-        class: g.class,
-        discards: g.discards,
-        residence: g.residence.0,
-        time: g.time.0,
-        last: g.last.0,
+impl From<Group> for GroupRecord {
+    ghost from_gives = { λ group lent. lent ≡ group_record group };
+
+    fn from(group: Group) -> GroupRecord {
+        GroupRecord {
+            used: group.used,
+            class: group.class,
+            discards: group.discards,
+            residence: group.residence.0,
+            time: group.time.0,
+            last: group.last.0,
+        }
     }
 }
 
-fn stream_of(s: StreamRecord) -> Stream
-    ensures { result ≡ stream_of s }
-{
-    let used = s.used;
-    let group = s.group;
-    let rate = Rate(s.rate);
-    if !used {
-        return Stream {
-            group,
-            rate,
-            regulator: Regulator::Unset,
+impl From<StreamRecord> for Stream {
+    ghost from_gives = { λ lent stream. stream ≡ stream_of lent };
+
+    fn from(lent: StreamRecord) -> Stream {
+        let regulator = if lent.used {
+            Regulator::Bucket {
+                burst: Bits(lent.burst),
+                empty: Moment {
+                    ticks: lent.empty,
+                    part: lent.part,
+                },
+            }
+        } else {
+            Regulator::Unset
         };
-    }
-    Stream {
-        group,
-        rate,
-        regulator: Regulator::Bucket {
-            burst: Bits(s.burst),
-            empty: Moment {
-                ticks: s.empty,
-                part: s.part,
-            },
-        },
+        Stream {
+            group: lent.group,
+            rate: Rate(lent.rate),
+            regulator,
+        }
     }
 }
 
@@ -173,10 +174,10 @@ fn unready_number(places: usize) -> u8
 fn tell_group(id: u64, group: GroupRecord, class: u64, residence: u64) -> GroupTold
     ensures { result ≡ group_told (group_placed id (group_of group) class residence) }
 {
-    let placed = place_group(byte(id), group_of(group), byte(class), Ticks(residence));
+    let placed = place_group(byte(id), Group::from(group), byte(class), Ticks(residence));
     GroupTold {
         number: set_up_number(placed.answer),
-        group: group_record(placed.after),
+        group: GroupRecord::from(placed.after),
     }
 }
 
@@ -192,9 +193,9 @@ fn tell_stream(
 {
     let placed = place_stream(
         byte(id),
-        stream_of(stream),
+        Stream::from(stream),
         byte(in_group),
-        group_of(group),
+        Group::from(group),
         Rate(rate),
         Bits(burst),
     );
@@ -216,19 +217,16 @@ fn tell_frame(
 {
     let judged = judge_in(
         byte(id),
-        stream_of(stream),
-        group_of(group),
+        Stream::from(stream),
+        Group::from(group),
         half(octets),
         Ticks(arrival),
     );
-    let answer = judged.answer;
-    let stream_after = judged.stream;
-    let group_after = judged.group;
     FrameTold {
-        number: answer_number(answer),
-        time: time_after(answer, time),
-        stream: stream_record(stream, stream_after),
-        group: group_record(group_after),
+        number: answer_number(judged.answer),
+        time: time_after(judged.answer, time),
+        stream: stream_record(stream, judged.stream),
+        group: GroupRecord::from(judged.group),
     }
 }
 

@@ -1,7 +1,7 @@
--- `firmware::group_record` meets its contract. Assumes nothing.
+-- A group's record to lend is made as the definition says. Assumes nothing.
 use mathlib.Core.Path.{refl}
 use Rattle.firmware.specs.Firmware.{group_record}
-use Rattle.firmware.proofs.group_record.Goals as goal
+use Rattle.firmware.proofs.GroupRecordFromGroup.from.Goals as goal
 
 pub returns : goal.returns
 unfolding group_record
