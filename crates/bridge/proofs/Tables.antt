@@ -15,7 +15,7 @@ use Rattle.records.specs.Numbers.{is_set_up}
 use Rattle.shaper.specs.Numbers.{judged, refused}
 use Rattle.records.specs.declared.Group.{Group}
 use Rattle.records.specs.declared.Stream.{Stream}
-use Rattle.shaper.specs.declared.Judged.{Judged}
+use Rattle.records.specs.Judged.{Judged}
 use Rattle.records.specs.declared.Answer.{Answer}
 use Rattle.shaper.proofs.Judging.{not_set_up, unsound}
 use Rattle.setup.proofs.Fresh.{group_out}

@@ -1,7 +1,7 @@
 -- Document 01, 'Numbers returned': the calls on the tables. Only the id's own record changes, and of a frame its group's too.
 -- b is the bridge, i the id, c a class, M a residence limit, k a stream's group, r its rate, u its burst, n a frame's octets, A its arrival.
 use Rattle.std.specs.Prelude.{ℕ}
-use Rattle.shaper.specs.declared.Judged.{Judged}
+use Rattle.records.specs.Judged.{Judged}
 use Rattle.calls.specs.Calls.{group_placed, stream_placed, judged_at}
 use Rattle.calls.specs.declared.Placed.{Placed}
 use Rattle.std.specs.declared.result.Result.{Result}

@@ -9,7 +9,7 @@ use Rattle.records.specs.Numbers.{is_set_up}
 use Rattle.records.specs.declared.Group.{Group}
 use Rattle.records.specs.declared.Stream.{Stream}
 use Rattle.shaper.specs.Numbers.{judged, refused}
-use Rattle.shaper.specs.declared.Judged.{Judged}
+use Rattle.records.specs.Judged.{Judged}
 use Rattle.calls.specs.declared.Placed.{Placed}
 use Rattle.std.specs.declared.result.Result.{Result}
 use Rattle.quantity.specs.declared.Refusal.{Refusal}

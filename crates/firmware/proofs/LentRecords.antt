@@ -14,7 +14,7 @@ use Rattle.records.specs.Numbers.{is_set_up, answer_number}
 use Rattle.quantity.specs.Charge.{charged}
 use Rattle.records.specs.declared.Group.{Group}
 use Rattle.records.specs.declared.Stream.{Stream}
-use Rattle.shaper.specs.declared.Judged.{Judged}
+use Rattle.records.specs.Judged.{Judged}
 use Rattle.records.specs.declared.Regulator.{Regulator}
 use Rattle.records.specs.declared.Regulator.TheVariants.{Unset, Bucket}
 use Rattle.calls.specs.Calls.{group_placed, stream_placed}

@@ -20,7 +20,7 @@ use Rattle.shaper.specs.Numbers.{judged, refused}
 use Rattle.quantity.specs.Charge.{charged}
 use Rattle.records.specs.declared.Group.{Group}
 use Rattle.records.specs.declared.Stream.{Stream}
-use Rattle.shaper.specs.declared.Judged.{Judged}
+use Rattle.records.specs.Judged.{Judged}
 use Rattle.shaper.proofs.Judging.{Verdict, verdict, too_late, in-time}
 use Rattle.bridge.specs.Tables.{no_stream}
 use Rattle.lent.specs.InPlace.{run_places, judged_in, stays, stored, received, Received}

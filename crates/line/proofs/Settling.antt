@@ -18,7 +18,7 @@ use Rattle.quantity.specs.Charge.{charged}
 use Rattle.records.specs.Numbers.{answer_number}
 use Rattle.records.specs.declared.Group.{Group}
 use Rattle.records.specs.declared.Stream.{Stream}
-use Rattle.shaper.specs.declared.Judged.{Judged}
+use Rattle.records.specs.Judged.{Judged}
 use Rattle.records.specs.declared.Answer.{Answer}
 use Rattle.records.specs.declared.Answer.TheVariants.{Released, Discarded, Refused}
 use Rattle.records.proofs.Soundness.{sound_ok}

@@ -16,7 +16,7 @@ use Rattle.quantity.specs.declared.Ticks.{Ticks}
 use Rattle.quantity.proofs.Booleans.{both}
 use Rattle.quantity.proofs.Ranges.{at_most}
 use Rattle.records.specs.declared.Answer.TheVariants.{Released}
-use Rattle.shaper.specs.declared.Judged.{Judged}
+use Rattle.records.specs.Judged.{Judged}
 use Rattle.places.specs.Queue.{classes}
 use Rattle.classes.specs.Soundness.{all_sound}
 use Rattle.firsts.specs.Firsts.{smallest_of}

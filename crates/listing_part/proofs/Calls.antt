@@ -10,7 +10,7 @@ use Rattle.records.specs.declared.Answer.{Answer}
 use Rattle.records.specs.declared.Answer.TheVariants.{Released, Discarded, Refused}
 use Rattle.records.specs.declared.Group.{Group}
 use Rattle.records.specs.declared.Stream.{Stream}
-use Rattle.shaper.specs.declared.Judged.{Judged}
+use Rattle.records.specs.Judged.{Judged}
 use Rattle.bridge.specs.Tables.{no_group, no_stream}
 use Rattle.quantity.specs.Ranges.{place_of}
 use Rattle.quantity.specs.declared.Item.TheVariants.{GroupId, StreamId}
@@ -26,7 +26,7 @@ use Rattle.bridge.proofs.Tables.{group_call, stream_call, frame_call}
 use Rattle.listing_text.specs.Lines.{values_of}
 use Rattle.quantity.proofs.Refusals.{refusal_number}
 use Rattle.listing_part.specs.Steps.{reply_of, set_up_answer, shown_of, frame_answer, stream_of, group_of, group_carried, stream_carried, frame_carried, carried_out}
-use Rattle.listing_part.specs.declared.Carried.{Carried}
+use Rattle.listing_part.specs.Steps.{Carried}
 use Rattle.std.proofs.Common.{Result, Ok, Err}
 use Rattle.quantity.specs.declared.Refusal.{Refusal}
 

@@ -6,7 +6,7 @@ use Rattle.records.specs.declared.Answer.{Answer}
 use Rattle.records.specs.declared.Answer.TheVariants as answer
 use Rattle.records.specs.declared.Group.{Group}
 use Rattle.records.specs.declared.Stream.{Stream}
-use Rattle.shaper.specs.declared.Judged.{Judged}
+use Rattle.records.specs.Judged.{Judged}
 use Rattle.bridge.specs.History.{Call, group, stream, frame, Reply}
 use Rattle.calls.specs.Numbers.{set_up_number}
 use Rattle.calls.specs.Calls.{group_placed, stream_placed, judged_at}
@@ -20,9 +20,13 @@ use Rattle.listing_text.specs.declared.Answered.{Answered}
 use Rattle.listing_part.specs.Parts.{may_go_on}
 use Rattle.listing_part.specs.declared.Step.{Step}
 use Rattle.listing_part.specs.declared.Step.TheVariants.{Ends, Goes}
-use Rattle.listing_part.specs.declared.Carried.{Carried}
 use Rattle.std.specs.declared.result.Result.{Result}
 use Rattle.quantity.specs.declared.Refusal.{Refusal}
+use Rattle.records.specs.declared.WithRecords.{WithRecords}
+
+-- what a record's call answers, and the records after it
+abbrev pub Carried : Type 0
+Carried = WithRecords Answered
 
 -- ---- answers
 

@@ -12,19 +12,14 @@ ghost use Rattle.listing_part.specs.Steps.{set_up_answer, frame_answer, next_ste
 use bridge::Bridge;
 use listing_text::{Answered, Shown};
 use quantity::{Bits, Item, Rate, Refusal, Ticks};
-use records::{Answer, Group, Stream};
+use records::{Answer, Group, Stream, WithRecords};
 use tablefile::{Reading, Record};
 
-// What a record's call answers, and the stream and the group that it looked at, as it leaves them. Public, with the type
-// that follows, for definitions of other crates.
-#[derive(Clone, Copy, Drop)]
-pub struct Carried {
-    pub answer: Answered,
-    pub stream: Stream,
-    pub group: Group,
-}
+// What a record's call answers, and the stream and the group that it looked at, as it leaves them.
+pub type Carried = WithRecords<Answered>;
 
 // What the listing does next: it ends with what the reader gave, or carries out a record; `next` is the place after it.
+// Public for definitions of other crates.
 #[derive(Clone, Copy, Drop)]
 pub enum Step {
     Ends(Reading),

@@ -17,7 +17,7 @@ use Rattle.records.specs.Numbers.{is_set_up, answer_number}
 use Rattle.quantity.specs.Charge.{charged}
 use Rattle.records.specs.declared.Group.{Group}
 use Rattle.records.specs.declared.Stream.{Stream}
-use Rattle.shaper.specs.declared.Judged.{Judged}
+use Rattle.records.specs.Judged.{Judged}
 use Rattle.shaper.proofs.Judging.{too_late, in-time}
 use Rattle.admission.proofs.Tests.{Passes}
 use Rattle.records.proofs.Soundness.{sound_ok, group_sound}

@@ -17,7 +17,7 @@ use Rattle.records.specs.declared.Regulator.{Regulator}
 use Rattle.records.specs.declared.Regulator.TheVariants.{Unset, Bucket}
 use Rattle.setup.specs.SetUp.{fresh_stream, stream_set_up}
 use Rattle.shaper.specs.Frame.{burst_of, process_frame, eligibility_time, discarded, released}
-use Rattle.shaper.specs.declared.Judged.{Judged}
+use Rattle.records.specs.Judged.{Judged}
 use Rattle.calls.specs.Calls.{stream_placed, taken}
 use Rattle.calls.specs.declared.Placed.{Placed}
 use Rattle.bridge.specs.Tables.{no_stream}

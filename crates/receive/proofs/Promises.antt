@@ -16,7 +16,7 @@ use Rattle.records.specs.Numbers.{is_set_up}
 use Rattle.shaper.specs.Numbers.{judged, refused}
 use Rattle.records.specs.declared.Answer.TheVariants.{Refused}
 use Rattle.records.specs.declared.Stream.{Stream}
-use Rattle.shaper.specs.declared.Judged.{Judged}
+use Rattle.records.specs.Judged.{Judged}
 use Rattle.shaper.proofs.Judging.{not_set_up}
 use Rattle.bridge.specs.Tables.{no_group, no_stream, group_at, stream_at, with_group, with_stream}
 use Rattle.calls.specs.Calls.{judged_at}

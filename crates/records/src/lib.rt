@@ -55,6 +55,14 @@ pub enum Answer {
     Refused(Refusal),
 }
 
+// An answer, and the stream and the group that it is about, as they stand after it.
+#[derive(Clone, Copy)]
+pub struct WithRecords<A> {
+    pub answer: A,
+    pub stream: Stream,
+    pub group: Group,
+}
+
 // Whether a stream is set up.
 pub fn is_set_up(regulator: Regulator) -> bool
     ensures { result ≡ is_set_up regulator }

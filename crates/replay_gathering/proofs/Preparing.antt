@@ -13,7 +13,7 @@ use Rattle.bridge.specs.Calls.{BridgeSetUp}
 use Rattle.bridge.proofs.Tables.{group_call, stream_call}
 use Rattle.replay_gathering.specs.declared.Wanted.{Wanted}
 use Rattle.replay_gathering.specs.declared.Wanted.TheVariants.{Group, Stream}
-use Rattle.replay_gathering.specs.declared.Prepared.{Prepared}
+use Rattle.replay_gathering.specs.Steps.{Prepared}
 use Rattle.replay_gathering.specs.Gathering.{called}
 use Rattle.replay_gathering.specs.Steps.{stream_of, group_of, group_prepared, stream_prepared, prepared_by}
 

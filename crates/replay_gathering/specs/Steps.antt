@@ -12,9 +12,13 @@ use Rattle.replay_gathering.specs.declared.Task.{Task}
 use Rattle.replay_gathering.specs.declared.Task.TheVariants.{Ends}
 use Rattle.replay_gathering.specs.declared.Wanted.{Wanted}
 use Rattle.replay_gathering.specs.declared.Wanted.TheVariants.{Group, Stream}
-use Rattle.replay_gathering.specs.declared.Prepared.{Prepared}
 use Rattle.std.specs.declared.result.Result.{Result}
 use Rattle.quantity.specs.declared.Refusal.{Refusal}
+use Rattle.records.specs.declared.WithRecords.{WithRecords}
+
+-- what a set-up answers, and the records after it
+abbrev pub Prepared : Type 0
+Prepared = WithRecords (Result (Unit {0}) Refusal)
 
 -- after a set-up that was refused there is no other task
 unfoldable pub task_after : Result (Unit {0}) Refusal → Task → Task

@@ -9,7 +9,7 @@ ghost use Rattle.replay_gathering.specs.Steps.{task_after, stream_of, group_of, 
 
 use bridge::Bridge;
 use quantity::{Bits, Item, Rate, Refusal, Ticks};
-use records::{Group, Stream};
+use records::{Group, Stream, WithRecords};
 use tablefile::{Reading, Record};
 
 // Why a gathering ended.
@@ -25,7 +25,7 @@ pub enum End {
     ListsFull,
 }
 
-// A set-up that a record asks for. Public, with the two types that follow, for definitions of other crates.
+// A set-up that a record asks for. Public, with the type that follows, for definitions of other crates.
 #[derive(Clone, Copy, Drop)]
 pub enum Wanted {
     Group {
@@ -58,12 +58,7 @@ pub enum Task {
 }
 
 // What a set-up answers, and the stream and the group that it looked at, as it leaves them.
-#[derive(Clone, Copy, Drop)]
-pub struct Prepared {
-    pub answer: Result<(), Refusal>,
-    pub stream: Stream,
-    pub group: Group,
-}
+pub type Prepared = WithRecords<Result<(), Refusal>>;
 
 // What a gathering gives beside the lists.
 #[derive(Clone, Copy, Drop)]

@@ -14,7 +14,7 @@ use Rattle.records.specs.declared.Moment.{Moment}
 use Rattle.records.specs.declared.Stream.{Stream}
 use Rattle.records.specs.declared.Regulator.{Regulator}
 use Rattle.records.specs.declared.Regulator.TheVariants.{Unset, Bucket}
-use Rattle.shaper.specs.declared.Judged.{Judged}
+use Rattle.records.specs.Judged.{Judged}
 
 -- a row: the answer's number and values, and the bucket empty time after it; a blank of the document is an empty list
 pub record Row : Type 0 where

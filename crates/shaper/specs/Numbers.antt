@@ -7,7 +7,7 @@ use Rattle.records.specs.declared.Stream.{Stream}
 use Rattle.records.specs.declared.Answer.TheVariants.{Refused as Refusing}
 use Rattle.admission.specs.Tests.{tested}
 use Rattle.shaper.specs.Frame.{process_frame}
-use Rattle.shaper.specs.declared.Judged.{Judged}
+use Rattle.records.specs.Judged.{Judged}
 use Rattle.std.specs.declared.result.Result.{Result}
 use Rattle.quantity.specs.declared.Bits.{Bits}
 

@@ -6,7 +6,7 @@ mod exact;
 mod frame;
 
 pub use frame::judge;
-use records::{Answer, Group, Stream};
+use records::{Answer, WithRecords};
 
 // An exact length of time, of a stream of rate r: whole ticks, and a remainder below r, counted in r-ths of a tick.
 #[derive(Clone, Copy, Drop)]
@@ -16,9 +16,4 @@ pub struct Span {
 }
 
 // The answer to a frame, and its stream's and its group's record after it.
-#[derive(Clone, Copy, Drop)]
-pub struct Judged {
-    pub answer: Answer,
-    pub stream: Stream,
-    pub group: Group,
-}
+pub type Judged = WithRecords<Answer>;

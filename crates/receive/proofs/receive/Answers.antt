@@ -2,7 +2,7 @@
 use Rattle.std.proofs.Common.{◌≡◌, true, false, length, sym, ap, ◌∙◌}
 use Rattle.records.specs.declared.Group.{Group}
 use Rattle.records.specs.declared.Answer.{Answer}
-use Rattle.shaper.specs.declared.Judged.{Judged}
+use Rattle.records.specs.Judged.{Judged}
 use Rattle.bridge.specs.Tables.{no_stream}
 use lib.ListN.{get_or, set}
 use Rattle.lent.specs.InPlace.{judged_in}
