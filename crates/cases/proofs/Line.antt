@@ -25,8 +25,8 @@ use Rattle.places.specs.declared.Waiting.{Waiting}
 use Rattle.places.specs.Queue.{nothing, count_of, entry_at}
 use Rattle.places.specs.Places.{with_last, has_room, moved, closed, without, take_gives}
 use Rattle.firsts.specs.Firsts.{part, first_from, first_in, first_of, smaller, smallest_below, smallest_of}
-use Rattle.firsts.specs.declared.Smallest.{Smallest}
-use Rattle.firsts.specs.declared.Smallest.TheVariants.{Time, NothingWaits}
+use Rattle.std.specs.Prelude.{Option, Some, None}
+use Rattle.quantity.specs.declared.Ticks.{Ticks}
 use Rattle.classes.specs.Soundness.{every, entry_sound, sound_at, class_sound, all_sound}
 use Rattle.classes.specs.Calls.{not_entered, enter_gives, due_or, due_below, due_of, take_due, pick_gives}
 use Rattle.waiting.specs.Promises.{start}
@@ -44,15 +44,15 @@ use Rattle.line.proofs.Pieces.{run_in_pieces, continued_is_accepted}
 use Rattle.cases.specs.Line.{three_frames, class_six_full, unequal_lists, beginning, Stops, LineExamples}
 
 -- ---- where class 6 is full, the run of one event: an arrival at tick 0 is next, whatever waits
-arrives_first : (x : Smallest) → step_for 1 0 3 3 (next_event (replicate 3 0) 0 0 x) ≡ Arrival
+arrives_first : (x : Option Ticks) → step_for 1 0 3 3 (next_event (replicate 3 0) 0 0 x) ≡ Arrival
 unfolding step_for next_event at_candidate arrives_by arrival_step
-arrives_first NothingWaits = refl
-arrives_first (Time t) = rw (leb-zero (max 0 t.0)) refl
+arrives_first None = refl
+arrives_first (Some t) = rw (leb-zero (max 0 t.0)) refl
 
-stops_after : (x : Smallest) → step_for 0 0 3 3 (next_event (replicate 3 0) 1 0 x) ≡ Ends BudgetSpent
+stops_after : (x : Option Ticks) → step_for 0 0 3 3 (next_event (replicate 3 0) 1 0 x) ≡ Ends BudgetSpent
 unfolding step_for next_event at_candidate arrives_by arrival_step
-stops_after NothingWaits = refl
-stops_after (Time t) = rw (leb-zero (max 0 t.0)) refl
+stops_after None = refl
+stops_after (Some t) = rw (leb-zero (max 0 t.0)) refl
 
 full_arrives : step (three_frames 0) 1 (beginning class_six_full 3) ≡ Arrival
 unfolding step begun

@@ -1,6 +1,6 @@
 -- Waiting places at which the premises of the promises of `waiting` hold, document 01's two figures among them: the 33rd entry of a class, and handles 7 and 8 with equal times.
 -- Each field of the record is a premise at these values, or what comes of it. Classes, handles, times and moments are plain numbers.
-use Rattle.std.specs.Prelude.{ℕ, zero, suc, ◌≤◌, ◌≡◌, [], ◌∷◌, replicate}
+use Rattle.std.specs.Prelude.{ℕ, zero, suc, ◌≤◌, ◌≡◌, Some, None, Ok, Err, [], ◌∷◌, replicate}
 use Rattle.quantity.specs.Numbers.{least_refusal}
 use Rattle.quantity.specs.Kinds.{ticks, bits}
 use Rattle.quantity.specs.declared.Refusal.TheVariants.{ClassFull}
@@ -8,9 +8,7 @@ use Rattle.places.specs.declared.Waiting.{Waiting}
 use Rattle.places.specs.declared.Entry.{Entry}
 use Rattle.places.specs.declared.Picked.TheVariants.{Leaves, Nothing}
 use Rattle.places.specs.Queue.{all_places, lists, nothing, queue, Shaped}
-use Rattle.firsts.specs.declared.Smallest.TheVariants.{Time, NothingWaits}
 use Rattle.firsts.specs.Firsts.{smallest_of}
-use Rattle.classes.specs.declared.Entered.TheVariants.{Done, Refused as NotEntered}
 use Rattle.classes.specs.Calls.{enter_gives, pick_gives}
 use Rattle.waiting.specs.Answers.{entered_number, picked_number, picked_values}
 use Rattle.waiting.specs.Rules.{Picks}
@@ -54,11 +52,11 @@ pub record WaitingExamples : Type 0 where
   pub reached : Reached seven_picked
   -- EnteredIsLast: handle 8 enters behind handle 7
   pub one_waits : Shaped with_seven
-  pub entered : (enter_gives with_seven 6 (entry 8 500)).answer ≡ Done
+  pub entered : (enter_gives with_seven 6 (entry 8 500)).answer ≡ Ok tt
   pub last : queue with_eight 6 ≡ entry 7 500 ∷ entry 8 500 ∷ []
   -- FullIsThirtyTwo: 31 entries of class 3 wait and the 32nd enters; 32 wait, and the 33rd gets 22
-  pub thirty_second : (enter_gives (in_class 3 31) 3 (entry 31 0)).answer ≡ Done
-  pub thirty_third : (enter_gives (in_class 3 32) 3 (entry 32 0)).answer ≡ NotEntered ClassFull
+  pub thirty_second : (enter_gives (in_class 3 31) 3 (entry 31 0)).answer ≡ Ok tt
+  pub thirty_third : (enter_gives (in_class 3 32) 3 (entry 32 0)).answer ≡ Err ClassFull
   -- PickedIsFirst: of handles 7 and 8 with equal times, 7 goes first; its class is above that of handle 9, whose time is smaller
   pub three_wait : Shaped with_nine
   pub seven_first : (pick_gives with_nine 500).answer ≡ Leaves 6 (entry 7 500)
@@ -76,5 +74,5 @@ pub record WaitingExamples : Type 0 where
   pub not_entered_is : least_refusal ≤ entered_number (enter_gives (in_class 3 32) 3 (entry 32 0)).answer
   pub not_picked : least_refusal ≤ picked_number (pick_gives overfull 0).answer
   -- SmallestIsSmallest: handle 9's time; and nothing waits
-  pub smallest : smallest_of with_nine.times with_nine.fills ≡ Time (ticks 300)
-  pub nothing_waits : smallest_of nothing.times nothing.fills ≡ NothingWaits
+  pub smallest : smallest_of with_nine.times with_nine.fills ≡ Some (ticks 300)
+  pub nothing_waits : smallest_of nothing.times nothing.fills ≡ None

@@ -12,8 +12,7 @@ use Rattle.quantity.specs.Ranges.{in_range}
 use Rattle.quantity.specs.declared.Item.TheVariants.{PickMoment}
 use Rattle.quantity.specs.declared.Refusal.{Refusal}
 use Rattle.quantity.specs.declared.Ticks.{Ticks}
-use Rattle.firsts.specs.declared.Smallest.{Smallest}
-use Rattle.firsts.specs.declared.Smallest.TheVariants.{Time, NothingWaits}
+use Rattle.std.specs.Prelude.{Option, Some, None}
 use Rattle.event.specs.Next.{arrives_by, at_candidate, next_event, Event, arrival, pick, none, arrival_step, pick_step, step_for}
 use Rattle.event.specs.declared.Stop.TheVariants.{Done, BudgetSpent, TooLate, PicksFull, Refused}
 use Rattle.event.specs.declared.Step.{Step}
@@ -25,7 +24,7 @@ module _ (l : List ℕ) (k m : ℕ) where
   unfolding arrives_by
   arrives_in h = simp (lt-ltb _ _ h)
 
-  pub arrives_out : length l ≤ k → false ≡ arrives_by l k m
+  pub arrives_out : length l ≤ k → ltb k (length l) ≡ arrives_by l k m
   unfolding arrives_by
   arrives_out h = simp (le-ltb _ _ h)
 
@@ -59,17 +58,17 @@ module _ (left picks handles moments : ℕ) where
       unfolding pick_step
       pick_now g f = simp (le-ltb _ _ h, e, lt-leb _ _ g, lt-leb _ _ f)
 
-  module _ (l : List ℕ) (k free : ℕ) (s : Smallest) where
-    pub nothing_left : s ≡ NothingWaits → length l ≤ k → Ends Done ≡ step_for left picks handles moments (next_event l k free s)
+  module _ (l : List ℕ) (k free : ℕ) (s : Option Ticks) where
+    pub nothing_left : s ≡ None → length l ≤ k → Ends Done ≡ step_for left picks handles moments (next_event l k free s)
     unfolding step_for next_event
     nothing_left e h = rw (e, le-ltb k (length l) h) refl
 
-  module _ (l : List ℕ) (k free : ℕ) (s : Smallest) (r : Step) where
-    pub nothing_arrives : s ≡ NothingWaits → k < length l → r ≡ arrival_step left → r ≡ step_for left picks handles moments (next_event l k free s)
+  module _ (l : List ℕ) (k free : ℕ) (s : Option Ticks) (r : Step) where
+    pub nothing_arrives : s ≡ None → k < length l → r ≡ arrival_step left → r ≡ step_for left picks handles moments (next_event l k free s)
     unfolding step_for next_event
     nothing_arrives e h q = rw (e, lt-ltb k (length l) h) q
 
-    module _ (t : Ticks) (e : s ≡ Time t) (m : ℕ) (c : m ≡ max free t.0) (b : Bool) (a : b ≡ arrives_by l k m) where
+    module _ (t : Ticks) (e : s ≡ Some t) (m : ℕ) (c : m ≡ max free t.0) (b : Bool) (a : b ≡ arrives_by l k m) where
       pub arrives_first : b ≡ true → r ≡ arrival_step left → r ≡ step_for left picks handles moments (next_event l k free s)
       unfolding step_for next_event at_candidate
       arrives_first h q = rw (e, sym c, sym a ∙ h) q
@@ -132,26 +131,26 @@ module _ (left picks handles moments : ℕ) where
   step_picks (pick m) t q = let z = pick_means left picks handles moments m t q in (ap pick z.0, rw z.0 at z.1)
 
 module _ (l : List ℕ) (k free : ℕ) where
-  pub event_arrives : (s : Smallest) → next_event l k free s ≡ arrival → k < length l
+  pub event_arrives : (s : Option Ticks) → next_event l k free s ≡ arrival → k < length l
   unfolding next_event at_candidate
-  event_arrives NothingWaits e = go (ltb k (length l)) refl e where
+  event_arrives None e = go (ltb k (length l)) refl e where
     go : (x : Bool) → ltb k (length l) ≡ x → cond x arrival none ≡ arrival → k < length l
     go true p q = ltb-true k (length l) p
     go false p q = let n : ◌≡◌ {A = ℕ} 0 1 = cc in absurd (omega arith)
-  event_arrives (Time t) e = go (arrives_by l k (max free t.0)) refl e where
+  event_arrives (Some t) e = go (arrives_by l k (max free t.0)) refl e where
     go : (x : Bool) → arrives_by l k (max free t.0) ≡ x → cond x arrival (pick (max free t.0)) ≡ arrival → k < length l
     go true p q = arrives_within l k (max free t.0) p
     go false p q = let n : ◌≡◌ {A = ℕ} 0 1 = cc in absurd (omega arith)
 
   -- a pick is at the candidate moment
-  pub event_picks : (s : Smallest) (m : ℕ) → next_event l k free s ≡ pick m → (t : Ticks) × (s ≡ Time t) × (m ≡ max free t.0)
+  pub event_picks : (s : Option Ticks) (m : ℕ) → next_event l k free s ≡ pick m → (t : Ticks) × (s ≡ Some t) × (m ≡ max free t.0)
   unfolding next_event at_candidate
-  event_picks NothingWaits m e = go (ltb k (length l)) e where
-    go : (x : Bool) → cond x arrival none ≡ pick m → (t : Ticks) × (NothingWaits ≡ Time t) × (m ≡ max free t.0)
+  event_picks None m e = go (ltb k (length l)) e where
+    go : (x : Bool) → cond x arrival none ≡ pick m → (t : Ticks) × (None ≡ Some t) × (m ≡ max free t.0)
     go true q = let n : ◌≡◌ {A = ℕ} 0 1 = cc in absurd (omega arith)
     go false q = let n : ◌≡◌ {A = ℕ} 0 1 = cc in absurd (omega arith)
-  event_picks (Time u) m e = go (arrives_by l k (max free u.0)) e where
-    go : (x : Bool) → cond x arrival (pick (max free u.0)) ≡ pick m → (t : Ticks) × (Time u ≡ Time t) × (m ≡ max free t.0)
+  event_picks (Some u) m e = go (arrives_by l k (max free u.0)) e where
+    go : (x : Bool) → cond x arrival (pick (max free u.0)) ≡ pick m → (t : Ticks) × (Some u ≡ Some t) × (m ≡ max free t.0)
     go true q = let n : ◌≡◌ {A = ℕ} 0 1 = cc in absurd (omega arith)
     go false q = (u, refl, cc)
 

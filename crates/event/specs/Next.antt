@@ -1,12 +1,11 @@
 -- Document 01, 'A run against a line': which event of a run is next, where it stops, and the number of a stop.
 -- l is the list of arrival times, k a place in it, m a moment.
-use Rattle.std.specs.Prelude.{ℕ, max, Bool, cond, not, ◌&&◌, ◌||◌, List, ltb, leb, length, get_or}
+use Rattle.std.specs.Prelude.{ℕ, max, Bool, cond, not, ◌&&◌, ◌||◌, Option, Some, None, List, ltb, leb, length, get_or}
 use Rattle.quantity.specs.Kinds.{ticks}
 use Rattle.quantity.specs.Ranges.{in_range}
+use Rattle.quantity.specs.declared.Ticks.{Ticks}
 use Rattle.quantity.specs.Numbers.{number_of}
 use Rattle.quantity.specs.declared.Item.TheVariants.{PickMoment}
-use Rattle.firsts.specs.declared.Smallest.{Smallest}
-use Rattle.firsts.specs.declared.Smallest.TheVariants.{Time, NothingWaits}
 use Rattle.event.specs.declared.Stop.{Stop}
 use Rattle.event.specs.declared.Stop.TheVariants.{Done, BudgetSpent, TooLate, PicksFull, Refused}
 use Rattle.event.specs.declared.Step.{Step}
@@ -29,9 +28,9 @@ unfoldable pub at_candidate : List ℕ → ℕ → ℕ → Event
 at_candidate l k m = cond (arrives_by l k m) arrival (pick m)
 
 -- where nothing waits, the next arrival, if one remains; where something waits, the candidate moment is the later of line-free and the smallest waiting time
-unfoldable pub next_event : List ℕ → ℕ → ℕ → Smallest → Event
-next_event l k free NothingWaits = cond (ltb k (length l)) arrival none
-next_event l k free (Time t) = at_candidate l k (max free t.0)
+unfoldable pub next_event : List ℕ → ℕ → ℕ → Option Ticks → Event
+next_event l k free None = cond (ltb k (length l)) arrival none
+next_event l k free (Some t) = at_candidate l k (max free t.0)
 
 -- ---- where a run stops, with so many events left of its budget: done, budget spent, pick too late, either pick list full
 

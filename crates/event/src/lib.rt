@@ -3,10 +3,9 @@
 // budget and of the pick lists. Nothing is judged, entered or picked here.
 #![tactic(auto)]
 
-ghost use Rattle.std.specs.Prelude.{◌≡◌, max};
+ghost use Rattle.std.specs.Prelude.{◌≡◌};
 ghost use Rattle.event.specs.Next.{arrives_by, next_event, step_for, arrival_step, pick_step, stop_number};
 
-use firsts::Smallest;
 use quantity::{Item, Refusal, Ticks};
 
 // Why a run stopped. A refused run did nothing.
@@ -33,21 +32,11 @@ pub enum Step {
 
 // ---- which event is next
 
-fn later(a: u64, b: u64) -> u64
-    ensures { result ≡ max a b }
-{
-    if a < b { b } else { a }
-}
-
 // Whether an arrival is left, and its time is not after the moment.
 fn arrives(arrivals: &[u64], next: usize, moment: u64) -> bool
     ensures { result ≡ arrives_by arrivals.now next moment }
 {
-    if next < arrivals.len() {
-        arrivals[next] <= moment
-    } else {
-        false
-    }
+    next < arrivals.len() && arrivals[next] <= moment
 }
 
 fn arrival_step(left: u64) -> Step
@@ -82,7 +71,7 @@ pub fn next_step(
     arrivals: &[u64],
     next: usize,
     free: Ticks,
-    smallest: Smallest,
+    smallest: Option<Ticks>,
     left: u64,
     picks: usize,
     handles: usize,
@@ -91,14 +80,14 @@ pub fn next_step(
     ensures { result ≡ step_for left picks handles moments (next_event arrivals.now next free.0 smallest) }
 {
     match smallest {
-        Smallest::NothingWaits => {
+        None => {
             if next < arrivals.len() {
                 return arrival_step(left);
             }
             Step::Ends(Stop::Done)
         }
-        Smallest::Time(time) => {
-            let moment = later(free.0, time.0);
+        Some(time) => {
+            let moment = free.0.max(time.0);
             if arrives(arrivals, next, moment) {
                 return arrival_step(left);
             }

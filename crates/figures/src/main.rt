@@ -8,10 +8,9 @@ ghost use Rattle.waiting.specs.Answers.{entered_number, picked_number};
 
 use bridge::Bridge;
 use calls::set_up_number;
-use classes::Entered;
 use event::stop_number;
 use places::{Entry, Picked, Waiting};
-use quantity::{Bits, Rate, Ticks, refusal_number};
+use quantity::{Bits, Rate, Refusal, Ticks, refusal_number};
 use records::{Answer, answer_number};
 use std::io::Write;
 use tablefile::Record;
@@ -50,12 +49,12 @@ fn framed_time(answer: Answer) -> u64 {
     }
 }
 
-fn entered_number(answer: Entered) -> u8
+fn entered_number(answer: Result<(), Refusal>) -> u8
     ensures { result ≡ entered_number answer }
 {
     match answer {
-        Entered::Done => 0,
-        Entered::Refused(why) => refusal_number(why),
+        Ok(()) => 0,
+        Err(why) => refusal_number(why),
     }
 }
 
@@ -104,9 +103,7 @@ fn before_discard() -> Bridge {
 
 fn with_class_8() -> Bridge {
     let mut tables = with_stream(RESIDENCE);
-    let mut groups = tables.groups;
-    groups[0].class = 8;
-    tables.groups = groups;
+    tables.groups[0].class = 8;
     tables
 }
 
@@ -140,10 +137,8 @@ fn entry(handle: u32, time: u64) -> Entry {
 // The places with so many entries in class 3.
 fn filled(n: u32) -> Waiting {
     let mut places = waiting::empty();
-    let mut k = 0;
-    while k < n {
+    for k in 0..n {
         places = waiting::enter(places, 3, entry(k, 5)).waiting;
-        k += 1;
     }
     places
 }
@@ -167,9 +162,7 @@ fn only_eight() -> Waiting {
 // A class that has more entries than places.
 fn overfull() -> Waiting {
     let mut places = waiting::empty();
-    let mut fills = places.fills;
-    fills[3] = 33;
-    places.fills = fills;
+    places.fills[3] = 33;
     places
 }
 

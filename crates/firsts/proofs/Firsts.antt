@@ -1,7 +1,7 @@
 -- Laws of which entry goes first: one step of the search in a class, and of the search for the smallest time of all. Assumes nothing.
 use mathlib.Core.Path.{◌≡◌, refl, sym, ap, ◌∙◌}
 use mathlib.Core.List.{List, ◌∷◌}
-use Prim.Native.Nat.{ℕ, suc, ◌+◌, ◌*◌, ◌-◌, ◌≤◌, ◌<◌, min}
+use Prim.Native.Nat.{ℕ, suc, ◌+◌, ◌*◌, ◌-◌, ◌≤◌, ◌<◌}
 use native.Mathlib.Omega.{arith}
 use native.Mathlib.Numerals.{add-one}
 use lib.ListN.{get_or}
@@ -11,9 +11,7 @@ use Rattle.quantity.specs.declared.Ticks.{Ticks}
 use Rattle.places.specs.Queue.{places, classes, count_of}
 use Rattle.places.proofs.Counts.{left, over}
 use Rattle.firsts.specs.declared.First.{First}
-use Rattle.firsts.specs.declared.First.TheVariants.{At, NoEntry}
-use Rattle.firsts.specs.declared.Smallest.{Smallest}
-use Rattle.firsts.specs.declared.Smallest.TheVariants.{Time, NothingWaits}
+use Rattle.std.specs.Prelude.{Option, Some, None}
 use Rattle.firsts.specs.Firsts.{part, first_from, first_in, first_of, smaller, smallest_below, smallest_of}
 
 -- ---- the search in a class whose entries stand from a place b on: one step, and the end
@@ -33,7 +31,7 @@ module _ (ts : List ℕ) (b n place t k : ℕ) where
   unfolding first_from
   step_old h x = rw (stands h, le-ltb (get_or ts (b + k) 0) t x) refl
 
-  pub step_done : n ≤ k → from ts b n place t k ≡ At place (ticks t)
+  pub step_done : n ≤ k → from ts b n place t k ≡ record { place = place; time = ticks t }
   unfolding first_from part
   step_done h = rw (over k n h) refl
 
@@ -47,42 +45,24 @@ module _ (ts : List ℕ) (b n place t k p x : ℕ) (h : k < n) where
 
 -- ---- the class
 module _ (ts fs : List ℕ) (c n : ℕ) (is : n ≡ count_of fs c) where
-  pub no_entry : n < 1 → NoEntry ≡ first_of ts fs c
+  pub no_entry : n < 1 → None ≡ first_of ts fs c
   unfolding first_of first_in part
   no_entry h = let z : count_of fs c ≡ 0 = omega arith in rw z refl
 
-  pub first_start : 0 < n → first_from 0 (get_or ts (c * places) 0) 1 (part ts (c * places + 1) (n - 1)) ≡ first_of ts fs c
+  pub first_start : 0 < n → Some (first_from 0 (get_or ts (c * places) 0) 1 (part ts (c * places + 1) (n - 1))) ≡ first_of ts fs c
   unfolding first_of first_in part
   first_start h = let z : count_of fs c ≡ suc (n - 1) = omega arith in rw z refl
 
 -- ---- the classes in turn, upwards: the smallest time of those below c
 module _ (ts fs : List ℕ) (c : ℕ) where
-  pub smallest_start : NothingWaits ≡ smallest_below ts fs 0
+  pub smallest_start : None ≡ smallest_below ts fs 0
   unfolding smallest_below
   smallest_start = refl
 
-  pub smallest_goes : (s r : Smallest) (f : First) → s ≡ smallest_below ts fs c → f ≡ first_of ts fs c → r ≡ smaller s f → r ≡ smallest_below ts fs (c + 1)
+  pub smallest_goes : (s r : Option Ticks) (f : Option First) → s ≡ smallest_below ts fs c → f ≡ first_of ts fs c → r ≡ smaller s f → r ≡ smallest_below ts fs (c + 1)
   unfolding smallest_below
   smallest_goes s r f p q e = e ∙ rw (p, q) (sym (ap (smallest_below ts fs) (add-one c)))
 
-  pub smallest_done : (s : Smallest) → c ≡ classes → s ≡ smallest_below ts fs c → s ≡ smallest_of ts fs
+  pub smallest_done : (s : Option Ticks) → c ≡ classes → s ≡ smallest_below ts fs c → s ≡ smallest_of ts fs
   unfolding smallest_of
   smallest_done s h e = e ∙ ap (smallest_below ts fs) h
-
--- ---- the smaller of two times
-module _ (s : Smallest) (f : First) where
-  pub keeps : f ≡ NoEntry → s ≡ smaller s f
-  unfolding smaller
-  keeps e = rw e refl
-
-  pub begins : (k : ℕ) (t : Ticks) → f ≡ At k t → s ≡ NothingWaits → Time t ≡ smaller s f
-  unfolding smaller
-  begins k t e h = rw (e, h) refl
-
-  pub stays : (k : ℕ) (t x : Ticks) → f ≡ At k t → s ≡ Time x → x.0 ≤ t.0 → Time x ≡ smaller s f
-  unfolding smaller
-  stays k t x e h l = rw (e, h) (ap (λ (n : ℕ). Time (ticks n)) (let z : x.0 ≡ min x.0 t.0 = omega arith in z))
-
-  pub falls : (k : ℕ) (t x : Ticks) → f ≡ At k t → s ≡ Time x → t.0 ≤ x.0 → Time t ≡ smaller s f
-  unfolding smaller
-  falls k t x e h l = rw (e, h) (ap (λ (n : ℕ). Time (ticks n)) (let z : t.0 ≡ min x.0 t.0 = omega arith in z))

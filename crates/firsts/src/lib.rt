@@ -1,25 +1,19 @@
 // Which entry goes first: the one of a class, and the smallest time at which any entry waits.
-// The arrays are looked at only; whether that entry is due is the caller's business.
+// The queues are looked at only; whether that entry is due is the caller's business.
 #![tactic(auto)]
 
 ghost use Rattle.std.specs.Prelude.{◌≡◌, ◌*◌, ◌-◌, ◌≤◌};
 ghost use Rattle.places.specs.Queue.{classes, places, count_of};
 ghost use Rattle.firsts.specs.Firsts.{first_of, smaller, smallest_of};
 
+use places::Waiting;
 use quantity::Ticks;
 
-// Which of a class's entries goes first: its place in the class, counted from 0 in order of entering, and its time.
+// The entry of a class that goes first: its place in the class, counted from 0 in order of entering, and its time.
 #[derive(Clone, Copy, Drop)]
-pub enum First {
-    At { place: usize, time: Ticks },
-    NoEntry,
-}
-
-// The smallest time at which any entry waits.
-#[derive(Clone, Copy, Drop)]
-pub enum Smallest {
-    Time(Ticks),
-    NothingWaits,
+pub struct First {
+    pub place: usize,
+    pub time: Ticks,
 }
 
 // How many entries of a class count: its fill; none where there is no such class, or the fill is beyond its places.
@@ -36,60 +30,48 @@ fn count(fills: &[u8; 8], class: u8) -> usize
     n as usize
 }
 
-// The entry of a class that goes first: the smallest time, and among equal times the one entered first.
-pub fn first_least(times: &[u64; 256], fills: &[u8; 8], class: u8) -> First
-    ensures { result ≡ first_of times.now fills.now class }
+// The entry of a class that goes first, if it has one: the smallest time, and among equal times the one entered first.
+pub fn first_least(waiting: &Waiting, class: u8) -> Option<First>
+    ensures { result ≡ first_of waiting.now.times waiting.now.fills class }
 {
-    let n = count(fills, class);
+    let n = count(&waiting.fills, class);
     if n < 1 {
-        return First::NoEntry;
+        return None;
     }
     let base = class as usize * places::PLACES;
     let mut place = 0;
-    let mut least = times[base];
-    let mut k = 1;
-    while k < n {
-        let t = times[base + k];
+    let mut least = waiting.times[base];
+    for k in 1..n {
+        let t = waiting.times[base + k];
         if t < least {
             place = k;
             least = t;
         }
-        k += 1;
     }
-    First::At {
+    Some(First {
         place,
         time: Ticks(least),
-    }
+    })
 }
 
-// The smaller of a time and a class's smallest.
-fn smaller_of(least: Smallest, first: First) -> Smallest
+// The smaller of a time and a class's smallest, where there are such.
+fn smaller_of(least: Option<Ticks>, first: Option<First>) -> Option<Ticks>
     ensures { result ≡ smaller least first }
 {
-    match first {
-        First::NoEntry => least,
-        First::At { place: _, time } => match least {
-            Smallest::NothingWaits => Smallest::Time(time),
-            Smallest::Time(s) => {
-                if s.0 < time.0 {
-                    Smallest::Time(s)
-                } else {
-                    Smallest::Time(time)
-                }
-            }
-        },
+    match (least, first) {
+        (_, None) => least,
+        (None, Some(f)) => Some(f.time),
+        (Some(s), Some(f)) => Some(Ticks(s.0.min(f.time.0))),
     }
 }
 
-// The smallest time at which any entry waits.
-pub fn smallest_time(times: &[u64; 256], fills: &[u8; 8]) -> Smallest
-    ensures { result ≡ smallest_of times.now fills.now }
+// The smallest time at which any entry waits, if one does.
+pub fn smallest_time(waiting: &Waiting) -> Option<Ticks>
+    ensures { result ≡ smallest_of waiting.now.times waiting.now.fills }
 {
-    let mut least = Smallest::NothingWaits;
-    let mut class: u8 = 0;
-    while class <= places::LAST_CLASS {
-        least = smaller_of(least, first_least(times, fills, class));
-        class += 1;
+    let mut least = None;
+    for class in 0..=places::LAST_CLASS {
+        least = smaller_of(least, first_least(waiting, class));
     }
     least
 }

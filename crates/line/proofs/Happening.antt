@@ -20,19 +20,18 @@ use Rattle.places.specs.Queue.{places, entry_at, Shaped}
 use Rattle.waiting.specs.Rules.{Each, After, Enters, Picks, NothingEligible}
 use Rattle.classes.specs.Soundness.{all_sound}
 use Rattle.places.specs.Places.{with_last, put_gives, without}
-use Rattle.classes.specs.Calls.{enter_gives, due_of, pick_gives}
+use Rattle.classes.specs.Calls.{Entered, enter_gives, due_of, picked_after, pick_gives}
 use Rattle.firsts.specs.Firsts.{smallest_of}
 use Rattle.places.specs.declared.Waiting.{Waiting}
 use Rattle.places.specs.declared.Entry.{Entry}
-use Rattle.classes.specs.declared.Entered.TheVariants.{Done, Refused as NotEntered}
-use Rattle.classes.specs.declared.AfterEnter.{AfterEnter}
-use Rattle.places.specs.declared.AfterPick.{AfterPick}
+use Rattle.std.specs.Prelude.{Some, Ok, Err}
+use Rattle.places.specs.declared.After.{After as AfterCall}
+use Rattle.places.specs.declared.Picked.{Picked}
 use Rattle.places.specs.declared.Picked.TheVariants.{Leaves}
-use Rattle.firsts.specs.declared.Smallest.TheVariants.{Time}
 use Rattle.waiting.proofs.Lines.{each_split, each_head}
 use Rattle.waiting.proofs.Choosing.{chosen}
 use Rattle.waiting.proofs.Cases.{Taking, pick_ways, taken}
-use Rattle.waiting.proofs.Kept.{first_inside, put_keeps, take_keeps, taken_fine, enter_untested}
+use Rattle.waiting.proofs.Kept.{due_inside, put_keeps, take_keeps, taken_fine, enter_untested}
 use Rattle.waiting.proofs.Promises.{enters_last, picks_first, picks_nothing, smallest_is_smallest}
 use Rattle.event.specs.declared.Step.TheVariants.{Pick}
 use Rattle.event.proofs.Steps.{Picks as PicksAt, step_picks, event_picks}
@@ -75,16 +74,16 @@ module _ (w : Waiting) (g : Group) (k n : ℕ) (sh : Shaped w) (so : all_sound w
     E : Enterable h
     E = may T refl
 
-    X : AfterEnter
+    X : AfterCall Entered
     X = enter_gives w h.class h.entry
 
-    told : X ≡ record { answer = cond (put_gives w h.class h.entry).placed Done (NotEntered ClassFull); waiting = (put_gives w h.class h.entry).waiting }
+    told : X ≡ record { answer = cond (put_gives w h.class h.entry).placed (Ok tt) (Err ClassFull); waiting = (put_gives w h.class h.entry).waiting }
     told = enter_untested w h.class h.entry so E.class E.entry
 
     go : (b : Bool) → (put_gives w h.class h.entry).placed ≡ b → Enter w g k n (Released T) ⊎ Pass w g k n (Released T)
     go true q =
         let d = put_did w h.class h.entry q in
-        let u : X ≡ record { answer = Done; waiting = with_last w h.class h.entry } = told ∙ rw (q, d.1) refl in
+        let u : X ≡ record { answer = Ok tt; waiting = with_last w h.class h.entry } = told ∙ rw (q, d.1) refl in
         let z = put_keeps w h.class h.entry sh E.class d.0 so E.entry in
         inl (record {
           handed = h;
@@ -92,12 +91,12 @@ module _ (w : Waiting) (g : Group) (k n : ℕ) (sh : Shaped w) (so : all_sound w
           handle = refl;
           number = rw u refl;
           zero = rw u refl;
-          enters = enters_last w h.class h.entry sh (ap (λ (x : AfterEnter). x.answer) u);
+          enters = enters_last w h.class h.entry sh (ap (λ (x : AfterCall Entered). x.answer) u);
           shaped = rw u z.0;
           sound = rw u z.1;
         })
     go false q =
-        let u : X ≡ record { answer = NotEntered ClassFull; waiting = w } = told ∙ rw (q, put_not w h.class h.entry q) refl in
+        let u : X ≡ record { answer = Err ClassFull; waiting = w } = told ∙ rw (q, put_not w h.class h.entry q) refl in
         inr (record { list = rw u refl; number = inr (refl, rw u refl); some = rw u (λ e. omega arith); stays = rw u refl })
 
 module _ (i : Input) (s : State) (S : Sound s) where
@@ -139,7 +138,7 @@ pub record Leave (i : Input) (s : State) (m : ℕ) : Type 0 where
     moments = set s.moments s.picks m;
   }
 
-module _ (w : Waiting) (t : Ticks) (m : ℕ) (e : smallest_of w.times w.fills ≡ Time t) (h : t.0 ≤ m) where
+module _ (w : Waiting) (t : Ticks) (m : ℕ) (e : smallest_of w.times w.fills ≡ Some t) (h : t.0 ≤ m) where
   -- where something waits at a time that is not after m, a pick at m finds an entry
   some_eligible : NothingEligible w m → ⊥
   some_eligible n =
@@ -154,27 +153,27 @@ module _ (i : Input) (s : State) (S : Sound s) (m : ℕ) where
   unfolding due_of picked_at sent
   leaves_from k =
       let w = s.waiting in
-      let c = chosen w.times w.fills m 8 k.class k.place k.due in
-      let inside = first_inside w k.class k.place c.time c.first in
-      let z = take_keeps w k.class k.place S.shaped inside S.sound in
-      let e : Entry = entry_at w (k.class * places + k.place) in
-      let u : pick_gives w m ≡ record { answer = Leaves k.class e; waiting = without w k.class k.place } = k.gives ∙ taken w k.class k.place inside in
+      let d = k.chosen in
+      let inside = due_inside w m 8 d (chosen w.times w.fills m 8 d k.due) in
+      let z = take_keeps w d.class d.place S.shaped inside S.sound in
+      let e : Entry = entry_at w (d.class * places + d.place) in
+      let u : pick_gives w m ≡ record { answer = Leaves d.class e; waiting = without w d.class d.place } = k.gives ∙ ap (picked_after d.class) (taken w d.class d.place inside) in
       record {
-        class = k.class;
+        class = d.class;
         entry = e;
-        rest = without w k.class k.place;
+        rest = without w d.class d.place;
         gives = u;
-        picks = rw (ap (λ (x : AfterPick). x.waiting) u) at (picks_first w m k.class e S.shaped (ap (λ (x : AfterPick). x.answer) u));
-        light = fine_bits e.time.0 e.bits.0 (taken_fine w k.class k.place S.shaped inside S.sound);
+        picks = rw (ap (λ (x : AfterCall Picked). x.waiting) u) at (picks_first w m d.class e S.shaped (ap (λ (x : AfterCall Picked). x.answer) u));
+        light = fine_bits e.time.0 e.bits.0 (taken_fine w d.class d.place S.shaped inside S.sound);
         shaped = z.0;
         sound = z.1;
-        state = ap (λ (x : AfterPick). sent i s m x.waiting x.answer) u;
+        state = ap (λ (x : AfterCall Picked). sent i s m x.waiting x.answer) u;
       }
 
-  pub pick_leaves : (t : Ticks) → smallest_of s.waiting.times s.waiting.fills ≡ Time t → t.0 ≤ m → Leave i s m
+  pub pick_leaves : (t : Ticks) → smallest_of s.waiting.times s.waiting.fills ≡ Some t → t.0 ≤ m → Leave i s m
   pick_leaves t e h =
       ⊎_elim (λ v. let z : false ≡ true = sym v.sound ∙ S.sound in let y : ◌≡◌ {A = ℕ} 0 1 = cc in absurd (omega arith))
-      (⊎_elim (λ v. absurd (some_eligible s.waiting t m e h (picks_nothing s.waiting m (ap (λ (x : AfterPick). x.answer) v.gives)).0)) leaves_from)
+      (⊎_elim (λ v. absurd (some_eligible s.waiting t m e h (picks_nothing s.waiting m (ap (λ (x : AfterCall Picked). x.answer) v.gives)).0)) leaves_from)
       (pick_ways s.waiting m)
 
 -- what a pick as the next step says
@@ -183,7 +182,7 @@ module _ (i : Input) (left : ℕ) (s : State) (m : Ticks) (e : step i left s ≡
   unfolding step
   picks_at = (step_picks left s.picks (length s.picked) (length s.moments) _ m e).1
 
-  candidate : (t : Ticks) × (smallest_of s.waiting.times s.waiting.fills ≡ Time t) × (m.0 ≡ max s.free t.0)
+  candidate : (t : Ticks) × (smallest_of s.waiting.times s.waiting.fills ≡ Some t) × (m.0 ≡ max s.free t.0)
   unfolding step
   candidate = event_picks i.arrivals s.next s.free (smallest_of s.waiting.times s.waiting.fills) m.0 (step_picks left s.picks (length s.picked) (length s.moments) _ m e).0
 

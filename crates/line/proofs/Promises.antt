@@ -19,7 +19,7 @@ use Rattle.classes.specs.Soundness.{all_sound}
 use Rattle.classes.specs.Calls.{pick_gives}
 use Rattle.places.specs.declared.Waiting.{Waiting}
 use Rattle.places.specs.declared.Entry.{Entry}
-use Rattle.places.specs.declared.AfterPick.{AfterPick}
+use Rattle.places.specs.declared.After.{After}
 use Rattle.bridge.specs.History.{reply, after_call, after, replies}
 use Rattle.bridge.specs.declared.Bridge.{Bridge}
 use Rattle.places.specs.declared.Picked.{Picked}
@@ -159,7 +159,7 @@ module _ (i : Input) (l : ℕ) (s : State) (m : Ticks) (e : step i (suc l) s ≡
 
   departs : {k : ℕ} {why : Stop} {s' : State} (t : Takes i l (picked_at i s m.0) k why s') → departures (picks m e t) ≡ record { class = lv.class; entry = lv.entry; moment = m.0 } ∷ departures t
   unfolding departures leaving
-  departs t = ap (λ (p : AfterPick). leaving m.0 p.answer ++ departures t) lv.gives
+  departs t = ap (λ (p : After Picked). leaving m.0 p.answer ++ departures t) lv.gives
 
 pub lists_are_written : ListsAreWritten
 unfolding numbers departures arrived written handles_of moments_of

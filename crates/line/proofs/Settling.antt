@@ -7,10 +7,8 @@ use native.Mathlib.Omega.{arith}
 use lib.Dec.{ltb}
 use lib.ListN.{get_or}
 use borrow.Author.Tests.{ltb-false}
-use Rattle.quantity.specs.Numbers.{number_of}
 use Rattle.quantity.specs.declared.Item.TheVariants.{EntryTime, Arrival, StreamId, GroupId}
 use Rattle.quantity.specs.declared.Refusal.{Refusal}
-use Rattle.quantity.specs.declared.Refusal.TheVariants.{ClassFull}
 use Rattle.quantity.specs.declared.Ticks.{Ticks}
 use Rattle.quantity.proofs.Ranges.{within, at_most, place_most, place_in}
 use Rattle.shaper.specs.Frame.{eligibility_time, discarded, released, process_frame, settled as settled_by}
@@ -23,12 +21,10 @@ use Rattle.records.specs.declared.Answer.{Answer}
 use Rattle.records.specs.declared.Answer.TheVariants.{Released, Discarded, Refused}
 use Rattle.records.proofs.Soundness.{sound_ok}
 use Rattle.quantity.proofs.Charging.{charge_in_range}
-use Rattle.classes.specs.Soundness.{entry_sound, all_sound}
-use Rattle.places.specs.Places.{AfterPut, put_gives}
-use Rattle.classes.specs.Calls.{enter_gives}
+use Rattle.classes.specs.Soundness.{entry_sound}
+use Rattle.classes.specs.Calls.{Entered, enter_gives}
 use Rattle.places.specs.declared.Waiting.{Waiting}
-use Rattle.classes.specs.declared.Entered.TheVariants.{Done, Refused as NotEntered}
-use Rattle.waiting.proofs.Kept.{enter_untested}
+use Rattle.waiting.specs.Answers.{entered_number}
 use Rattle.bridge.specs.Tables.{no_group, no_stream, group_at, stream_at}
 use Rattle.quantity.specs.Ranges.{place_of}
 use Rattle.bridge.specs.Calls.{frame_stored, frame_called}
@@ -39,27 +35,12 @@ use Rattle.line.specs.Run.{handed, entered, settled}
 use Rattle.line.specs.Firsts.{Enterable}
 use Rattle.line.specs.declared.Handed.{Handed}
 
--- ---- entering
-module _ (w : Waiting) (g : Group) (k n : ℕ) (a : Answer) (T : Ticks) (e : a ≡ Released T) (s : all_sound w.times w.bits w.fills ≡ true)
-    (H : Handed) (q : H ≡ handed g k n T.0) (may : (t : Ticks) → a ≡ Released t → Enterable (handed g k n t.0))
-    (b : Bool) (W : Waiting) (p : record { placed = b; waiting = W } ≡ put_gives w H.class H.entry) where
-  untested : (t : Bool) → b ≡ t → record { number = cond t 0 (number_of ClassFull); waiting = W } ≡ settled w g k n a
-  unfolding settled entered
-  untested t z =
-      let E = may T e in
-      let u = enter_untested w (handed g k n T.0).class (handed g k n T.0).entry s E.class E.entry in
-      let y : record { placed = t; waiting = W } ≡ put_gives w (handed g k n T.0).class (handed g k n T.0).entry =
-      ap (λ (x : Bool). record { placed = x; waiting = W }) (sym z) ∙ p ∙ ap (λ (x : Handed). put_gives w x.class x.entry) q in
-      rw e (told t ∙ ap (λ (x : AfterPut). entered (record { answer = cond x.placed Done (NotEntered ClassFull); waiting = x.waiting })) y ∙ ap entered (sym u)) where
-        told : (t : Bool) → record { number = cond t 0 (number_of ClassFull); waiting = W } ≡ entered (record { answer = cond t Done (NotEntered ClassFull); waiting = W })
-        told true = refl
-        told false = refl
-
-  pub settle_full : b ≡ false → (r : ℕ) → r ≡ number_of ClassFull → record { number = r; waiting = W } ≡ settled w g k n a
-  settle_full t r i = ap (λ (x : ℕ). record { number = x; waiting = W }) i ∙ untested false t
-
-  pub settle_in : b ≡ true → record { number = 0; waiting = W } ≡ settled w g k n a
-  settle_in t = untested true t
+-- ---- what becomes of a frame
+-- H is what is handed on for a released one, x and W what entering it gave
+pub settle_released : (w : Waiting) (g : Group) (k n : ℕ) (a : Answer) (T : Ticks) → a ≡ Released T → (H : Handed) → H ≡ handed g k n T.0
+    → (x : Entered) (W : Waiting) → record { answer = x; waiting = W } ≡ enter_gives w H.class H.entry → record { number = entered_number x; waiting = W } ≡ settled w g k n a
+unfolding settled entered
+settle_released w g k n a T e H q x W p = rw e (ap entered (p ∙ ap (λ (h : Handed). enter_gives w h.class h.entry) q))
 
 module _ (w : Waiting) (g : Group) (k n : ℕ) (a : Answer) where
   pub settle_discarded : (T : Ticks) → a ≡ Discarded T → (r : ℕ) → r ≡ answer_number a → record { number = r; waiting = w } ≡ settled w g k n a
@@ -117,9 +98,3 @@ module _ (b : Bridge) (i n A : ℕ) (T : Ticks) (e : (frame_called b i n A).answ
       y ∙ ap (λ (j : ℕ). place_of GroupId (get_or b.streams j no_stream).group) a ∙ place_in GroupId (get_or b.streams i no_stream).group (within GroupId (get_or b.streams i no_stream).group (omega arith) o.id) in
       ap (λ (j : ℕ). get_or b.groups j no_group) c
 
--- ---- the places that the code finds are in the tables
-pub stream_found : (p i : ℕ) → p ≡ place_of StreamId i → p < 64
-stream_found p i e = omega (arith, place_most StreamId i)
-
-pub group_found : (q i : ℕ) → q ≡ place_of GroupId i → q < 16
-group_found q i e = omega (arith, place_most GroupId i)

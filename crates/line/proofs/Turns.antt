@@ -1,7 +1,6 @@
 -- A run, event by event: what the loop keeps, and one law for each way through a turn. Assumes nothing.
 use mathlib.Core.Path.{◌≡◌, refl, sym, ap, ap₂, ◌∙◌}
 use mathlib.Core.Bool.{Bool, true, false}
-use mathlib.Core.List.{List}
 use Prim.Native.Nat.{ℕ, zero, suc, ◌+◌, ◌-◌, ◌≤◌, ◌<◌}
 use native.Mathlib.Omega.{arith}
 use lib.Dec.{leb, eqb}
@@ -9,7 +8,7 @@ use lib.ListN.{length, get_or, set, length-set}
 use borrow.Author.Tests.{leb-true, eqb-true}
 use Rattle.quantity.specs.Kinds.{ticks}
 use Rattle.quantity.specs.Ranges.{in_range, most_of, place_of}
-use Rattle.quantity.specs.declared.Item.TheVariants.{LineRate, LineFree, ListPlaces, GroupId, StreamId}
+use Rattle.quantity.specs.declared.Item.TheVariants.{Charge, LineRate, LineFree, ListPlaces, GroupId, StreamId}
 use Rattle.quantity.specs.declared.Refusal.{Refusal}
 use Rattle.quantity.specs.declared.Refusal.TheVariants.{Unsound, ListsUnfit, LineUnfit}
 use Rattle.quantity.specs.declared.Ticks.{Ticks}
@@ -17,16 +16,15 @@ use Rattle.quantity.proofs.Booleans.{both}
 use Rattle.quantity.proofs.Ranges.{at_most}
 use Rattle.records.specs.declared.Answer.TheVariants.{Released}
 use Rattle.records.specs.Judged.{Judged}
-use Rattle.places.specs.Queue.{classes}
 use Rattle.classes.specs.Soundness.{all_sound}
 use Rattle.firsts.specs.Firsts.{smallest_of}
 use Rattle.classes.specs.Calls.{pick_gives}
 use Rattle.places.specs.declared.Waiting.{Waiting}
 use Rattle.places.specs.declared.Entry.{Entry}
-use Rattle.firsts.specs.declared.Smallest.{Smallest}
+use Rattle.std.specs.Prelude.{Option, Ok, Err}
 use Rattle.places.specs.declared.Picked.TheVariants.{Leaves}
-use Rattle.places.specs.declared.AfterPick.{AfterPick}
-use Rattle.waiting.proofs.Kept.{pick_untested}
+use Rattle.places.specs.declared.Picked.{Picked}
+use Rattle.places.specs.declared.After.{After}
 use Rattle.bridge.specs.Tables.{no_group, no_stream}
 use Rattle.calls.specs.Calls.{judged_at}
 use Rattle.bridge.specs.Calls.{frame_called}
@@ -38,12 +36,12 @@ use Rattle.event.specs.declared.Stop.{Stop}
 use Rattle.event.specs.declared.Stop.TheVariants.{Refused}
 use Rattle.event.specs.declared.Step.{Step}
 use Rattle.event.specs.declared.Step.TheVariants.{Ends, Arrival, Pick}
-use Rattle.event.proofs.Steps.{Picks, step_arrives, step_picks, event_arrives, event_picks}
-use Rattle.line.specs.Run.{Input, State, step, handed, Settled, settled, frame_at, group_of, settled_at, arrived, sending_ticks, sent, picked_at, stopped, onward, run_for, lists_fit, line_fits, start_of, start_at, started_by, run_gives}
-use Rattle.line.specs.Firsts.{soon_below, smallest_in, Keeps, Enterable, TakenDue}
+use Rattle.event.proofs.Steps.{Picks, step_arrives, step_picks, event_arrives}
+use Rattle.line.specs.Run.{Input, State, step, handed, Settled, settled, frame_at, group_of, settled_at, arrived, sending_ticks, sent, picked_at, stopped, onward, run_for, lists_fit, line_fits, Start, start_of, start_at, started_by, run_gives}
+use Rattle.line.specs.Firsts.{Enterable}
+use Rattle.line.specs.Promises.{Sound}
 use Rattle.line.specs.declared.Ran.{Ran}
-use Rattle.line.specs.declared.Start.TheVariants.{Runs, NotRun}
-use Rattle.line.proofs.Noting.{smallest_is, smallest_soon}
+use Rattle.line.proofs.Happening.{Leave, leaves}
 use Rattle.line.proofs.Settling.{settled_same, may_enter, own_group}
 
 -- ---- the definition, one step at a time
@@ -98,10 +96,9 @@ fits_open i s e f =
     }
 
 -- ---- what the loop keeps
-pub record Running (i : Input) (budget : ℕ) (s₀ s : State) (firsts places : List ℕ) : Type 0 where
+pub record Running (i : Input) (budget : ℕ) (s₀ s : State) : Type 0 where
   pub same : run_for i (budget - s.events) s ≡ run_for i budget s₀
   pub spent : s.events ≤ budget
-  pub keeps : Keeps s.waiting firsts places
   pub ids : length i.ids ≡ length i.arrivals
   pub octets : length i.octets ≡ length i.arrivals
   pub many : length i.arrivals ≤ most_of ListPlaces
@@ -111,11 +108,10 @@ pub record Running (i : Input) (budget : ℕ) (s₀ s : State) (firsts places : 
   pub picked_long : length s.picked ≡ length s₀.picked
   pub moments_long : length s.moments ≡ length s₀.moments
 
-pub starts : (i : Input) (budget : ℕ) (s : State) (firsts places : List ℕ) → s.events ≡ 0 → Fits i s → Keeps s.waiting firsts places → Running i budget s s firsts places
-starts i budget s firsts places z F K = record {
+pub starts : (i : Input) (budget : ℕ) (s : State) → s.events ≡ 0 → Fits i s → Running i budget s s
+starts i budget s z F = record {
   same = let y : budget - s.events ≡ budget = omega arith in rw y refl;
   spent = omega arith;
-  keeps = K;
   ids = F.ids;
   octets = F.octets;
   many = at_most ListPlaces (length i.arrivals) F.many;
@@ -129,23 +125,23 @@ starts i budget s firsts places z F K = record {
 -- ---- a turn of the loop
 
 -- its step st is the one of the definition
-pub record Turn (i : Input) (budget : ℕ) (s₀ s : State) (firsts places : List ℕ) (st : Step) : Type 0 where
-  pub running : Running i budget s₀ s firsts places
+pub record Turn (i : Input) (budget : ℕ) (s₀ s : State) (st : Step) : Type 0 where
+  pub running : Running i budget s₀ s
   pub step_is : st ≡ step i (budget - s.events) s
 
 -- as the code finds it: sm is the smallest waiting time
-pub turn : (i : Input) (budget : ℕ) (s₀ s : State) (firsts places : List ℕ) → Running i budget s₀ s firsts places
-    → (sm : Smallest) → sm ≡ smallest_in firsts
+pub turn : (i : Input) (budget : ℕ) (s₀ s : State) → Running i budget s₀ s
+    → (sm : Option Ticks) → sm ≡ smallest_of s.waiting.times s.waiting.fills
     → (st : Step) → st ≡ step_for (budget - s.events) s.picks (length s.picked) (length s.moments) (next_event i.arrivals s.next s.free sm)
-    → Turn i budget s₀ s firsts places st
+    → Turn i budget s₀ s st
 unfolding step
-turn i budget s₀ s firsts places R sm p st q = record {
+turn i budget s₀ s R sm p st q = record {
   running = R;
-  step_is = q ∙ ap (λ (x : Smallest). step_for (budget - s.events) s.picks (length s.picked) (length s.moments) (next_event i.arrivals s.next s.free x)) (p ∙ smallest_is s.waiting firsts places R.keeps);
+  step_is = q ∙ ap (λ (x : Option Ticks). step_for (budget - s.events) s.picks (length s.picked) (length s.moments) (next_event i.arrivals s.next s.free x)) p;
 }
 
-module _ {i : Input} {budget : ℕ} {s₀ s : State} {firsts places : List ℕ} {st : Step} (U : Turn i budget s₀ s firsts places st) where
-  abbrev R : Running i budget s₀ s firsts places
+module _ {i : Input} {budget : ℕ} {s₀ s : State} {st : Step} (U : Turn i budget s₀ s st) where
+  abbrev R : Running i budget s₀ s
   R = U.running
 
   abbrev step_is : st ≡ step i (budget - s.events) s
@@ -156,18 +152,17 @@ module _ {i : Input} {budget : ℕ} {s₀ s : State} {firsts places : List ℕ} 
   turn_ends why e = sym (run_ends i (budget - s.events) s why (sym step_is ∙ e)) ∙ R.same
 
   -- it goes on
-  goes_on : 1 ≤ budget - s.events → (s' : State) (firsts' places' : List ℕ) → run_for i (budget - (s.events + 1)) s' ≡ run_for i (suc (budget - (s.events + 1))) s
-      → s'.events ≡ s.events + 1 → Keeps s'.waiting firsts' places'
+  goes_on : 1 ≤ budget - s.events → (s' : State) → run_for i (budget - (s.events + 1)) s' ≡ run_for i (suc (budget - (s.events + 1))) s
+      → s'.events ≡ s.events + 1
       → length s'.answers ≡ length s.answers → length s'.picked ≡ length s.picked → length s'.moments ≡ length s.moments
-      → Running i budget s₀ s' firsts' places'
-  goes_on l s' firsts' places' e one K la lp lm =
+      → Running i budget s₀ s'
+  goes_on l s' e one la lp lm =
       let w : suc (budget - (s.events + 1)) ≡ budget - s.events = omega arith in
       let room = R.room in
       let spent = R.spent in
       record {
         same = ap (λ (n : ℕ). run_for i (budget - n) s') one ∙ e ∙ ap (λ (n : ℕ). run_for i n s) w ∙ R.same;
         spent = omega arith;
-        keeps = K;
         ids = R.ids;
         octets = R.octets;
         many = R.many;
@@ -238,13 +233,12 @@ module _ {i : Input} {budget : ℕ} {s₀ s : State} {firsts places : List ℕ} 
           moments = s.moments;
         }
 
-        pub turn_arrives : (firsts' places' : List ℕ) → Keeps W firsts' places'
-            → Running i budget s₀ (now (record { answer = j.answer; bridge = record { groups = set b.groups of j.group; streams = set b.streams at j.stream } }) (record { number = r; waiting = W })) firsts' places'
+        pub turn_arrives : Running i budget s₀ (now (record { answer = j.answer; bridge = record { groups = set b.groups of j.group; streams = set b.streams at j.stream } }) (record { number = r; waiting = W }))
         unfolding arrived
-        turn_arrives firsts' places' K =
+        turn_arrives =
             let l = arrival_within.0 in
-            goes_on l (now (record { answer = j.answer; bridge = record { groups = set b.groups of j.group; streams = set b.streams at j.stream } }) (record { number = r; waiting = W })) firsts' places'
-            (ap (run_for i (budget - (s.events + 1))) (ap₂ now framed settles) ∙ sym (run_arrives i (budget - (s.events + 1)) s (suc_left Arrival l e))) refl K
+            goes_on l (now (record { answer = j.answer; bridge = record { groups = set b.groups of j.group; streams = set b.streams at j.stream } }) (record { number = r; waiting = W }))
+            (ap (run_for i (budget - (s.events + 1))) (ap₂ now framed settles) ∙ sym (run_arrives i (budget - (s.events + 1)) s (suc_left Arrival l e))) refl
             (length-set s.answers s.next r) refl refl
 
   -- by a pick
@@ -252,15 +246,6 @@ module _ {i : Input} {budget : ℕ} {s₀ s : State} {firsts places : List ℕ} 
     pub pick_within : Picks (budget - s.events) s.picks (length s.picked) (length s.moments) t.0
     unfolding step
     pick_within = (step_picks (budget - s.events) s.picks (length s.picked) (length s.moments) _ t (sym step_is ∙ e)).1
-
-    pub pick_due : soon_below firsts classes ≤ t.0
-    unfolding step
-    pick_due =
-        let w = (step_picks (budget - s.events) s.picks (length s.picked) (length s.moments) _ t (sym step_is ∙ e)).0 in
-        let v = event_picks i.arrivals s.next s.free (smallest_of s.waiting.times s.waiting.fills) t.0 w in
-        let u = (smallest_soon s.waiting firsts places R.keeps v.0 v.1).0 in
-        let m = v.2 in
-        omega arith
 
     abbrev sent_now : Entry → Waiting → ℕ → State
     sent_now l W d = record {
@@ -275,16 +260,33 @@ module _ {i : Input} {budget : ℕ} {s₀ s : State} {firsts places : List ℕ} 
       moments = set s.moments s.picks t.0;
     }
 
-    pub turn_picks : (l : Entry) (W : Waiting) (firsts' places' : List ℕ) → TakenDue s.waiting t.0 l W firsts' places' → (d : ℕ) → d ≡ sending_ticks l.bits.0 i.rate
-        → Running i budget s₀ (sent_now l W d) firsts' places'
-    unfolding picked_at sent
-    turn_picks l W firsts' places' D d u =
-        let x = pick_within.some in
-        let g : pick_gives s.waiting t.0 ≡ record { answer = Leaves D.class l; waiting = W } = pick_untested s.waiting t.0 R.keeps.sound ∙ D.taken in
-        let z : sent_now l W d ≡ picked_at i s t.0 =
-        ap (sent_now l W) u ∙ ap (λ (a : AfterPick). sent i s t.0 a.waiting a.answer) (sym g) in
-        goes_on x (sent_now l W d) firsts' places' (ap (run_for i (budget - (s.events + 1))) z ∙ sym (run_picks i (budget - (s.events + 1)) s t (suc_left (Pick t) x e))) refl D.keeps
-        refl (length-set s.picked s.picks l.handle) (length-set s.moments s.picks t.0)
+    module _ (S : Sound s) (p : Picked) (W : Waiting) (g : record { answer = p; waiting = W } ≡ pick_gives s.waiting t.0) where
+      leave : Leave i s t.0
+      leave = leaves i (budget - s.events) s t (sym step_is ∙ e) S
+
+      is_leaving : p ≡ Leaves leave.class leave.entry
+      is_leaving = ap (λ (a : After Picked). a.answer) (g ∙ leave.gives)
+
+      -- an entry leaves
+      pub some_leaves : ((c : ℕ) (l : Entry) → p ≡ Leaves c l → ⊥) → ⊥
+      some_leaves n = n leave.class leave.entry is_leaving
+
+      module _ (c : ℕ) (l : Entry) (q : p ≡ Leaves c l) where
+        pub leaves_light : l.bits.0 ≤ most_of Charge
+        leaves_light =
+            let z : Leaves leave.class leave.entry ≡ Leaves c l = sym is_leaving ∙ q in
+            let y : leave.entry ≡ l = cc in
+            rw y at leave.light
+
+        pub turn_picks : (d : ℕ) → d ≡ sending_ticks l.bits.0 i.rate → Running i budget s₀ (sent_now l W d)
+        unfolding picked_at sent
+        turn_picks d u =
+            let x = pick_within.some in
+            let h : record { answer = Leaves c l; waiting = W } ≡ pick_gives s.waiting t.0 = ap (λ (a : Picked). record { answer = a; waiting = W }) (sym q) ∙ g in
+            let z : sent_now l W d ≡ picked_at i s t.0 =
+            ap (sent_now l W) u ∙ ap (λ (a : After Picked). sent i s t.0 a.waiting a.answer) h in
+            goes_on x (sent_now l W d) (ap (run_for i (budget - (s.events + 1))) z ∙ sym (run_picks i (budget - (s.events + 1)) s t (suc_left (Pick t) x e))) refl
+            refl (length-set s.picked s.picks l.handle) (length-set s.moments s.picks t.0)
 
 -- ---- the call
 module _ (i : Input) (budget : ℕ) (s : State) where
@@ -314,9 +316,13 @@ module _ (i : Input) (budget : ℕ) (s : State) where
   gives_run e f g = rw (e, f, g) refl
 
   -- and by what the code's tests say
-  pub gives_refused : (why : Refusal) → start_at i s ≡ NotRun why → run_gives i budget s ≡ stopped (Refused why) s
+  pub gives_refused : (why : Refusal) → start_at i s ≡ Err why → run_gives i budget s ≡ stopped (Refused why) s
   unfolding run_gives started_by
   gives_refused why e = ap (started_by i budget s) e
+
+  pub gives_started : start_at i s ≡ Ok tt → run_gives i budget s ≡ run_for i budget s
+  unfolding run_gives started_by
+  gives_started e = ap (started_by i budget s) e
 
   -- a refused run gives the state that it was called in
   pub refuses : (why : Refusal) (r : Ran) → run_gives i budget s ≡ stopped (Refused why) s
@@ -325,7 +331,11 @@ module _ (i : Input) (budget : ℕ) (s : State) where
   unfolding stopped
   refuses why r e q = ap (λ (x : Ran). record { ran = x; answers = s.answers; picked = s.picked; moments = s.moments }) q ∙ sym e
 
-pub all_fit : (lists line queues : Bool) → start_of lists line queues ≡ Runs → (lists ≡ true) × ((line ≡ true) × (queues ≡ true))
+-- the code's tests are those of the definition
+pub told : (lists line queues l k : Bool) (x : Start) → l ≡ lists → k ≡ line → x ≡ start_of l k queues → start_of lists line queues ≡ x
+told lists line queues l k x p q e = sym (e ∙ ap₂ (λ (a b : Bool). start_of a b queues) p q)
+
+pub all_fit : (lists line queues : Bool) → start_of lists line queues ≡ Ok tt → (lists ≡ true) × ((line ≡ true) × (queues ≡ true))
 unfolding start_of
 all_fit true true true e = (refl, (refl, refl))
 all_fit false line queues e = let z : ◌≡◌ {A = ℕ} 0 1 = cc in absurd (omega arith)

@@ -1,15 +1,13 @@
 -- Document 01, 'A run against a line': a run as the events that it takes, and what happens in it: numbers given, entries that enter, entries that leave.
 -- i is a run's input, s a state, k a count of events, t a run taken event by event.
-use Rattle.std.specs.Prelude.{ℕ, zero, suc, ◌+◌, ◌≡◌, Bool, cond, List, [], ◌∷◌, ◌++◌, eqb, get_or, set}
+use Rattle.std.specs.Prelude.{ℕ, zero, suc, ◌+◌, ◌≡◌, Bool, cond, Ok, Err, List, [], ◌∷◌, ◌++◌, eqb, get_or, set}
 use Rattle.quantity.specs.declared.Ticks.{Ticks}
 use Rattle.records.specs.declared.Group.{Group}
 use Rattle.records.specs.declared.Answer.{Answer}
 use Rattle.records.specs.declared.Answer.TheVariants.{Released, Discarded, Refused as FrameRefused}
-use Rattle.classes.specs.Calls.{enter_gives, pick_gives}
+use Rattle.classes.specs.Calls.{Entered, enter_gives, pick_gives}
 use Rattle.places.specs.declared.Waiting.{Waiting}
 use Rattle.places.specs.declared.Entry.{Entry}
-use Rattle.classes.specs.declared.Entered.{Entered}
-use Rattle.classes.specs.declared.Entered.TheVariants.{Done, Refused as NotEntered}
 use Rattle.places.specs.declared.Picked.{Picked}
 use Rattle.places.specs.declared.Picked.TheVariants.{Leaves, Nothing, Refused as NotPicked}
 use Rattle.bridge.specs.History.{Call, frame}
@@ -46,8 +44,8 @@ numbers (picks m e t) = numbers t
 
 -- what enters its class, of a frame that was answered
 unfoldable pub entering_by : Handed → Entered → List Handed
-entering_by h Done = h ∷ []
-entering_by h (NotEntered why) = []
+entering_by h (Ok done) = h ∷ []
+entering_by h (Err why) = []
 
 unfoldable pub entering_of : Waiting → Group → ℕ → ℕ → Answer → List Handed
 entering_of w g k n (Released T) = entering_by (handed g k n T.0) (enter_gives w (handed g k n T.0).class (handed g k n T.0).entry).answer

@@ -1,9 +1,10 @@
 -- Document 01, 'A run against a line': the events of a run and what it gives; which is next and where it stops are in `event`.
 -- i is a run's input, s its state, m a moment, n a frame's octets, T its eligibility time, k its place in the list.
-use Rattle.std.specs.Prelude.{ℕ, zero, suc, ◌+◌, ◌-◌, ◌/◌, Bool, cond, not, ◌&&◌, List, [], ◌∷◌, leb, eqb, length, get_or, set}
+use Rattle.std.specs.Prelude.{ℕ, zero, suc, ◌+◌, ◌-◌, ◌/◌, Bool, cond, not, ◌&&◌, Result, Ok, Err, List, [], ◌∷◌, leb, eqb, length, get_or, set}
 use Rattle.quantity.specs.Kinds.{ticks, bits}
 use Rattle.quantity.specs.Ranges.{in_range}
 use Rattle.quantity.specs.declared.Item.TheVariants.{LineRate, LineFree, ListPlaces}
+use Rattle.quantity.specs.declared.Refusal.{Refusal}
 use Rattle.quantity.specs.declared.Refusal.TheVariants.{Unsound, ListsUnfit, LineUnfit}
 use Rattle.records.specs.ExactTime.{bit_time}
 use Rattle.quantity.specs.Charge.{charged}
@@ -13,10 +14,10 @@ use Rattle.records.specs.declared.Answer.{Answer}
 use Rattle.records.specs.declared.Answer.TheVariants.{Released, Discarded, Refused as FrameRefused}
 use Rattle.classes.specs.Soundness.{all_sound}
 use Rattle.firsts.specs.Firsts.{smallest_of}
-use Rattle.classes.specs.Calls.{enter_gives, pick_gives}
+use Rattle.classes.specs.Calls.{Entered, enter_gives, pick_gives}
 use Rattle.waiting.specs.Answers.{entered_number}
 use Rattle.places.specs.declared.Waiting.{Waiting}
-use Rattle.classes.specs.declared.AfterEnter.{AfterEnter}
+use Rattle.places.specs.declared.After.{After}
 use Rattle.places.specs.declared.Picked.{Picked}
 use Rattle.places.specs.declared.Picked.TheVariants.{Leaves, Nothing, Refused as NotPicked}
 use Rattle.bridge.specs.Tables.{group_at, stream_at}
@@ -30,8 +31,6 @@ use Rattle.event.specs.declared.Step.{Step}
 use Rattle.event.specs.declared.Step.TheVariants.{Ends, Arrival, Pick}
 use Rattle.line.specs.declared.Handed.{Handed}
 use Rattle.line.specs.declared.Ran.{Ran}
-use Rattle.line.specs.declared.Start.{Start}
-use Rattle.line.specs.declared.Start.TheVariants.{Runs, NotRun}
 
 -- ---- what a run is given, and how it stands
 
@@ -73,7 +72,7 @@ pub record Settled : Type 0 where
   pub number : ℕ
   pub waiting : Waiting
 
-unfoldable pub entered : AfterEnter → Settled
+unfoldable pub entered : After Entered → Settled
 entered e = record { number = entered_number e.answer; waiting = e.waiting }
 
 -- if released it enters its class, and a full class gives 22; else the queues stay
@@ -186,13 +185,17 @@ lists_fit arrivals ids octets start answers =
 unfoldable pub line_fits : ℕ → ℕ → Bool
 line_fits rate free = in_range LineRate rate && in_range LineFree free
 
+-- what the tests of a run's arguments say: it runs, or why not
+abbrev pub Start : Type 0
+Start = Result (Unit {0}) Refusal
+
 -- by the tests of the lists, of the line and of the queues: refused by 28, 29 and 9, in this order
 unfoldable pub start_of : Bool → Bool → Bool → Start
 start_of lists line queues =
-    cond (not lists) (NotRun ListsUnfit)
-    (cond (not line) (NotRun LineUnfit)
-    (cond (not queues) (NotRun Unsound)
-    Runs))
+    cond (not lists) (Err ListsUnfit)
+    (cond (not line) (Err LineUnfit)
+    (cond (not queues) (Err Unsound)
+    (Ok tt)))
 
 unfoldable pub start_at : Input → State → Start
 start_at i s =
@@ -201,8 +204,8 @@ start_at i s =
 
 -- a run that is refused changes nothing; else it goes event by event
 unfoldable pub started_by : Input → ℕ → State → Start → Outcome
-started_by i budget s Runs = run_for i budget s
-started_by i budget s (NotRun why) = stopped (Refused why) s
+started_by i budget s (Ok runs) = run_for i budget s
+started_by i budget s (Err why) = stopped (Refused why) s
 
 unfoldable pub run_gives : Input → ℕ → State → Outcome
 run_gives i budget s = started_by i budget s (start_at i s)

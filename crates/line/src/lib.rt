@@ -1,31 +1,35 @@
 // The run of a list of arrivals against one line, event by event: an arrival is judged and enters its class, or the
 // entry that goes first leaves for the line. Which is next is `event`'s, judging `bridge`'s, putting and taking out
-// `places`', the first of a class `firsts`'. Tables and queues stand in the run's own arrays, with the first of each class:
-// no event copies a table.
+// `places`', the first of a class `firsts`'. Tables and queues are changed in place, and the first of each class is kept
+// beside the queues: no event copies a table.
 #![tactic(auto)]
 
-ghost use Rattle.std.specs.Prelude.{◌≡◌, true, ◌<◌, ◌≤◌, min, length, set};
+ghost use Rattle.std.specs.Prelude.{◌≡◌, true, ◌<◌, ◌≤◌, length};
 ghost use Rattle.quantity.specs.Ranges.{in_range, most_of};
 ghost use Rattle.records.specs.ExactTime.{bit_time};
-ghost use Rattle.places.specs.Queue.{classes, lists};
+ghost use Rattle.places.specs.Queue.{classes, Shaped};
 ghost use Rattle.classes.specs.Soundness.{all_sound};
-ghost use Rattle.firsts.specs.Firsts.{first_of};
-ghost use Rattle.places.specs.Places.{put_gives};
+ghost use Rattle.classes.specs.Calls.{enter_gives, due_of, pick_gives};
+ghost use Rattle.firsts.specs.Firsts.{first_of, smallest_of};
 ghost use Rattle.line.specs.Run.{sending_ticks, handed, settled, lists_fit, line_fits, start_of, begun, run_for, run_gives};
-ghost use Rattle.line.specs.Firsts.{time_of, place_of, soon_below, smallest_in, class_below, Noted, Keeps, entry_of, Enterable, TakenDue};
+ghost use Rattle.line.specs.Firsts.{never, noted, Noted, Keeps, Enterable};
 
 use bridge::Bridge;
+use classes::Due;
 use event::{Step, Stop};
-use firsts::{First, Smallest};
-use places::{Entry, Picked, Waiting};
+use firsts::First;
+use places::{Entry, LAST_CLASS, Picked, Waiting};
 use quantity::{Bits, Item, ORDINARY_OVERHEAD, Rate, Refusal, TICKS_PER_SECOND, Ticks};
 use records::{Answer, Group};
 
-// Classes are 0 up to this one.
-const LAST_CLASS: usize = quantity::MOST_CLASS as usize;
-
-// Later than the time of any entry: the first of a class in which nothing waits.
+// Later than the time of any entry.
 const NEVER: u64 = 18_446_744_073_709_551_615;
+
+// What is noted of a class in which nothing waits.
+const NO_FIRST: First = First {
+    place: 0,
+    time: Ticks(NEVER),
+};
 
 // What is handed to the queue. Public for definitions of other crates.
 #[derive(Clone, Copy, Drop)]
@@ -47,181 +51,131 @@ pub struct Ran {
     pub waiting: Waiting,
 }
 
-// What the tests of a run's arguments say. Public for definitions of other crates.
-#[derive(Clone, Copy, Drop)]
-pub enum Start {
-    Runs,
-    NotRun(Refusal),
+// ---- the queues of a run
+
+// Sound waiting places, with the first of each class beside them, so that only a class that an entry has left is
+// searched again.
+#[derive(Drop)]
+struct Queues {
+    waiting: Waiting,
+    firsts: [First; 8],
+    ghost keeps: { Keeps waiting firsts },
 }
 
-// A class as an index; its own function, so that its use asks no proof that it fits.
-fn wide(x: u8) -> usize
-    ensures { (result ≡ x) × (result < 256) }
+// What is noted of a class: its first, or a time later than that of any entry.
+fn noted(waiting: &Waiting, class: u8) -> First
+    ensures { result ≡ noted (first_of waiting.now.times waiting.now.fills class) }
 {
-    x as usize
+    firsts::first_least(waiting, class).unwrap_or(NO_FIRST)
 }
 
-fn sooner(a: u64, b: u64) -> u64
-    ensures { result ≡ min a b }
+// What is noted of all classes.
+fn all_noted(waiting: &Waiting) -> [First; 8]
+    ensures { Noted waiting.now.times waiting.now.fills result classes }
 {
-    if a < b { a } else { b }
-}
-
-// ---- the first of each class
-
-fn time_of(first: First) -> u64
-    ensures { result ≡ time_of first }
-{
-    match first {
-        First::At { place: _, time } => time.0,
-        First::NoEntry => NEVER,
+    let mut firsts = [NO_FIRST; 8];
+    for class in 0..=LAST_CLASS {
+        firsts[class as usize] = noted(waiting, class);
     }
+    firsts
 }
 
-fn place_of(first: First) -> usize
-    ensures { result ≡ place_of first }
-{
-    match first {
-        First::At { place, time: _ } => place,
-        First::NoEntry => 0,
+impl Queues {
+    // The queues of a run, from waiting places that are sound.
+    fn new(waiting: Waiting) -> Queues
+        requires { all_sound waiting.times waiting.bits waiting.fills ≡ true }
+        ensures { result.waiting ≡ waiting }
+    {
+        let firsts = all_noted(&waiting);
+        Queues { waiting, firsts }
     }
-}
 
-// Searches a class for the entry that goes first.
-fn note_first(
-    times: &[u64; 256],
-    fills: &[u8; 8],
-    firsts: &mut [u64; 8],
-    places: &mut [usize; 8],
-    class: u8,
-)
-    requires { class < classes }
-    ensures { (firsts.new ≡ set firsts.old class (time_of (first_of times.now fills.now class)))
-        × (places.new ≡ set places.old class (place_of (first_of times.now fills.now class))) }
-{
-    let c = wide(class);
-    let first = firsts::first_least(times, fills, class);
-    firsts[c] = time_of(first);
-    places[c] = place_of(first);
-}
-
-// Searches all classes.
-fn note_all(times: &[u64; 256], fills: &[u8; 8], firsts: &mut [u64; 8], places: &mut [usize; 8])
-    requires { (length firsts.old ≡ classes) × (length places.old ≡ classes) }
-    ensures { Noted times.now fills.now firsts.new places.new classes }
-{
-    let mut class: u8 = 0;
-    while wide(class) <= LAST_CLASS {
-        note_first(times, fills, firsts, places, class);
-        class += 1;
-    }
-}
-
-// The smallest waiting time.
-fn soonest(firsts: &[u64; 8]) -> Smallest
-    ensures { result ≡ smallest_in firsts.now }
-{
-    let mut soon = NEVER;
-    let mut c = 0;
-    while c <= LAST_CLASS {
-        soon = sooner(soon, firsts[c]);
-        c += 1;
-    }
-    if soon == NEVER {
-        return Smallest::NothingWaits;
-    }
-    Smallest::Time(Ticks(soon))
-}
-
-// The highest class whose first time is not after the moment; 0 where there is none.
-fn due_class(firsts: &[u64; 8], moment: u64) -> u8
-    ensures { (result ≡ class_below firsts.now moment classes) × (result < classes) }
-{
-    let mut above = LAST_CLASS as u8 + 1;
-    while above > 0 {
-        let class = above - 1;
-        if firsts[wide(class)] <= moment {
-            return class;
+    // The smallest waiting time, if an entry waits.
+    fn soonest(&self) -> Option<Ticks>
+        ensures { result ≡ smallest_of self.now.waiting.times self.now.waiting.fills }
+    {
+        let mut soon = NEVER;
+        for first in &self.firsts {
+            soon = soon.min(first.time.0);
         }
-        above -= 1;
+        if soon == NEVER {
+            return None;
+        }
+        Some(Ticks(soon))
     }
-    0
-}
 
-// ---- the queues, with the first of each class beside them
-
-// Puts an entry last into its class, where it has room, and says whether it did.
-fn enqueue(
-    times: &mut [u64; 256],
-    handles: &mut [u32; 256],
-    bits: &mut [u64; 256],
-    fills: &mut [u8; 8],
-    firsts: &mut [u64; 8],
-    places: &mut [usize; 8],
-    handed_on: Handed,
-) -> bool
-    requires { Keeps (lists times.old handles.old bits.old fills.old) firsts.old places.old × Enterable handed_on }
-    ensures { (record { placed = result; waiting = lists times.new handles.new bits.new fills.new }
-        ≡ put_gives (lists times.old handles.old bits.old fills.old) handed_on.class handed_on.entry)
-        × Keeps (lists times.new handles.new bits.new fills.new) firsts.new places.new }
-{
-    let class = handed_on.class;
-    let entry = handed_on.entry;
-    let time = entry.time.0;
-    let c = wide(class);
-    let last = wide(fills[c]);
-    if !places::put(times, handles, bits, fills, class, entry) {
-        return false;
+    // The highest class that has an entry whose time is not after the moment, and which of its entries goes first.
+    fn due(&self, moment: u64) -> Option<Due>
+        requires { moment < never }
+        ensures { result ≡ due_of self.now.waiting.times self.now.waiting.fills moment }
+    {
+        for class in (0..=LAST_CLASS).rev() {
+            let first = self.firsts[class as usize];
+            if first.time.0 <= moment {
+                return Some(Due {
+                    class,
+                    place: first.place,
+                });
+            }
+        }
+        None
     }
-    if time < firsts[c] {
-        firsts[c] = time;
-        places[c] = last;
-        return true;
+
+    // Enters what may enter.
+    fn enqueue(&mut self, handed_on: Handed) -> Result<(), Refusal>
+        requires { Enterable handed_on }
+        ensures { record { answer = result; waiting = self.new.waiting } ≡ enter_gives self.old.waiting handed_on.class handed_on.entry }
+    {
+        let class = handed_on.class;
+        let entry = handed_on.entry;
+        let c = class as usize;
+        let place = self.waiting.fills[c] as usize;
+        if !self.waiting.put(class, entry) {
+            return Err(Refusal::ClassFull);
+        }
+        if entry.time.0 < self.firsts[c].time.0 {
+            self.firsts[c] = First {
+                place,
+                time: entry.time,
+            };
+        }
+        Ok(())
     }
-    true
-}
 
-// The entry that left.
-fn entry_of(picked: Picked) -> Entry
-    ensures { result ≡ entry_of picked }
-{
-    match picked {
-        Picked::Leaves { class: _, entry } => entry,
-        Picked::Nothing => Entry {
-            handle: 0,
-            time: Ticks(0),
-            bits: Bits(0),
-        },
-        Picked::Refused(_) => Entry {
-            handle: 0,
-            time: Ticks(0),
-            bits: Bits(0),
-        },
+    // Picks at a moment.
+    fn dequeue(&mut self, moment: Ticks) -> Picked
+        requires { moment.0 < never }
+        ensures { record { answer = result; waiting = self.new.waiting } ≡ pick_gives self.old.waiting moment.0 }
+    {
+        let Some(due) = self.due(moment.0) else {
+            return Picked::Nothing;
+        };
+        let left = self.waiting.take_out(due.class, due.place);
+        self.firsts[due.class as usize] = noted(&self.waiting, due.class);
+        match left {
+            Some(entry) => Picked::Leaves {
+                class: due.class,
+                entry,
+            },
+            None => Picked::Nothing,
+        }
+    }
+
+    // Enters a judged frame if it is released, and gives the number for its place in the list of answers.
+    fn settle(&mut self, answer: Answer, group: Group, place: u32, octets: u16) -> u8
+        requires { (t : Ticks) → answer ≡ Answer.Released t → Enterable (handed group place octets t.0) }
+        ensures { record { number = result; waiting = self.new.waiting } ≡ settled self.old.waiting group place octets answer }
+    {
+        match answer {
+            Answer::Released(time) => match self.enqueue(hand_on(group, place, octets, time)) {
+                Ok(()) => 0,
+                Err(why) => quantity::refusal_number(why),
+            },
+            Answer::Discarded(_) => records::answer_number(answer),
+            Answer::Refused(_) => records::answer_number(answer),
+        }
     }
 }
-
-// Takes out the entry to send at a moment at which one is due.
-fn dequeue(
-    times: &mut [u64; 256],
-    handles: &mut [u32; 256],
-    bits: &mut [u64; 256],
-    fills: &mut [u8; 8],
-    firsts: &mut [u64; 8],
-    places: &mut [usize; 8],
-    moment: Ticks,
-) -> Entry
-    requires { Keeps (lists times.old handles.old bits.old fills.old) firsts.old places.old × ((soon_below firsts.old classes ≤ moment.0) × (moment.0 ≤ most_of Item.PickMoment)) }
-    ensures { TakenDue (lists times.old handles.old bits.old fills.old) moment.0 result
-        (lists times.new handles.new bits.new fills.new) firsts.new places.new }
-{
-    let class = due_class(firsts, moment.0);
-    let place = places[wide(class)];
-    let left = places::take_out(times, handles, bits, fills, class, place);
-    note_first(times, fills, firsts, places, class);
-    entry_of(left)
-}
-
-// ---- one arrival
 
 // What is handed to the queue for a frame released at a time: its place in the list is its handle.
 fn hand_on(group: Group, place: u32, octets: u16, time: Ticks) -> Handed
@@ -238,37 +192,6 @@ fn hand_on(group: Group, place: u32, octets: u16, time: Ticks) -> Handed
     }
 }
 
-// Enters a judged frame if it is released, and gives the number for its place in the list of answers.
-fn settle(
-    times: &mut [u64; 256],
-    handles: &mut [u32; 256],
-    bits: &mut [u64; 256],
-    fills: &mut [u8; 8],
-    firsts: &mut [u64; 8],
-    places: &mut [usize; 8],
-    answer: Answer,
-    group: Group,
-    place: u32,
-    octets: u16,
-) -> u8
-    requires { Keeps (lists times.old handles.old bits.old fills.old) firsts.old places.old × ((t : Ticks) → answer ≡ Answer.Released t → Enterable (handed group place octets t.0)) }
-    ensures { (record { number = result; waiting = lists times.new handles.new bits.new fills.new }
-        ≡ settled (lists times.old handles.old bits.old fills.old) group place octets answer)
-        × Keeps (lists times.new handles.new bits.new fills.new) firsts.new places.new }
-{
-    match answer {
-        Answer::Released(time) => {
-            let handed_on = hand_on(group, place, octets, time);
-            if !enqueue(times, handles, bits, fills, firsts, places, handed_on) {
-                return quantity::refusal_number(Refusal::ClassFull);
-            }
-            0
-        }
-        Answer::Discarded(_) => records::answer_number(answer),
-        Answer::Refused(_) => records::answer_number(answer),
-    }
-}
-
 // ---- the line
 
 // How long the line is busy with so many bits, taken up to a whole tick.
@@ -281,61 +204,47 @@ fn sending_ticks(bits: Bits, rate: Rate) -> u64
 
 // ---- the run
 
-// Whether a run's lists, of so many places, fit each other and the starting place.
-fn lists_fit(arrivals: usize, ids: usize, octets: usize, start: usize, answers: usize) -> bool
-    ensures { result ≡ lists_fit arrivals ids octets start answers }
+// Whether a run's lists fit each other and the starting place.
+fn lists_fit(arrivals: &[u64], ids: &[u8], octets: &[u16], start: usize, answers: &[u8]) -> bool
+    ensures { result ≡ lists_fit (length arrivals.now) (length ids.now) (length octets.now) start (length answers.now) }
 {
-    if ids != arrivals {
+    let n = arrivals.len();
+    if ids.len() != n {
         return false;
     }
-    if octets != arrivals {
+    if octets.len() != n {
         return false;
     }
-    if !quantity::in_range(Item::ListPlaces, arrivals as u64) {
+    if !quantity::in_range(Item::ListPlaces, n as u64) {
         return false;
     }
-    if start > arrivals {
+    if start > n {
         return false;
     }
-    arrivals <= answers
+    n <= answers.len()
 }
 
 // Whether the line's rate and the moment it is free are in range.
 fn line_fits(rate: Rate, free: Ticks) -> bool
     ensures { result ≡ line_fits rate.0 free.0 }
 {
-    if !quantity::in_range(Item::LineRate, rate.0) {
-        return false;
-    }
-    quantity::in_range(Item::LineFree, free.0)
+    quantity::in_range(Item::LineRate, rate.0) && quantity::in_range(Item::LineFree, free.0)
 }
 
-// Tests the lengths of a run's lists, its line and its queues.
-fn start_of(
-    arrivals: usize,
-    ids: usize,
-    octets: usize,
-    start: usize,
-    answers: usize,
-    rate: Rate,
-    free: Ticks,
-    waiting: Waiting,
-) -> Start
-    ensures { result ≡ start_of (lists_fit arrivals ids octets start answers) (line_fits rate.0 free.0) (all_sound waiting.times waiting.bits waiting.fills) }
+// What the tests of a run's lists, its line and its queues say.
+fn start_of(lists: bool, line: bool, waiting: &Waiting) -> Result<(), Refusal>
+    ensures { result ≡ start_of lists line (all_sound waiting.now.times waiting.now.bits waiting.now.fills) }
 {
-    let times = waiting.times;
-    let bits = waiting.bits;
-    let fills = waiting.fills;
-    if !lists_fit(arrivals, ids, octets, start, answers) {
-        return Start::NotRun(Refusal::ListsUnfit);
+    if !lists {
+        return Err(Refusal::ListsUnfit);
     }
-    if !line_fits(rate, free) {
-        return Start::NotRun(Refusal::LineUnfit);
+    if !line {
+        return Err(Refusal::LineUnfit);
     }
-    if !classes::all_sound(&times, &bits, &fills) {
-        return Start::NotRun(Refusal::Unsound);
+    if !classes::all_sound(waiting) {
+        return Err(Refusal::Unsound);
     }
-    Start::Runs
+    Ok(())
 }
 
 // A run that did nothing.
@@ -355,7 +264,7 @@ fn refused(why: Refusal, bridge: Bridge, waiting: Waiting, start: usize, free: T
 
 // The events of a run whose arguments fit and whose queues are sound.
 fn run_events(
-    bridge: Bridge,
+    mut bridge: Bridge,
     waiting: Waiting,
     arrivals: &[u64],
     ids: &[u8],
@@ -374,15 +283,7 @@ fn run_events(
         ≡ run_for (record { arrivals = arrivals.entry.now; ids = ids.now; octets = octets.now; rate = rate.0 }) budget
         (begun bridge waiting start free.0 answers.old picked.old moments.old) }
 {
-    let mut times = waiting.times;
-    let mut handles = waiting.handles;
-    let mut bits = waiting.bits;
-    let mut fills = waiting.fills;
-    let mut groups = bridge.groups;
-    let mut streams = bridge.streams;
-    let mut firsts = [0u64; 8];
-    let mut places = [0usize; 8];
-    note_all(&times, &fills, &mut firsts, &mut places);
+    let mut queues = Queues::new(waiting);
     let mut next = start;
     let mut free_at = free.0;
     let mut events: u64 = 0;
@@ -392,7 +293,7 @@ fn run_events(
             arrivals,
             next,
             Ticks(free_at),
-            soonest(&firsts),
+            queues.soonest(),
             budget - events,
             picks,
             picked.len(),
@@ -406,67 +307,41 @@ fn run_events(
                     free: Ticks(free_at),
                     events,
                     picks,
-                    bridge: Bridge { groups, streams },
-                    waiting: Waiting {
-                        times,
-                        handles,
-                        bits,
-                        fills,
-                    },
+                    bridge,
+                    waiting: queues.waiting,
                 };
             }
             Step::Arrival => {
                 let id = ids[next];
                 let at = quantity::place_of(Item::StreamId, id);
-                let stream = streams[at];
+                let stream = bridge.streams[at];
                 let of = quantity::place_of(Item::GroupId, stream.group);
-                let group = groups[of];
+                let group = bridge.groups[of];
                 let length = octets[next];
                 let arrival = arrivals[next];
                 let judged = calls::judge_at(id, stream, group, length, Ticks(arrival));
-                let stream_after = judged.stream;
-                let group_after = judged.group;
-                let answer = judged.answer;
-                streams[at] = stream_after;
-                groups[of] = group_after;
-                answers[next] = settle(
-                    &mut times,
-                    &mut handles,
-                    &mut bits,
-                    &mut fills,
-                    &mut firsts,
-                    &mut places,
-                    answer,
-                    group,
-                    next as u32,
-                    length,
-                );
+                bridge.streams[at] = judged.stream;
+                bridge.groups[of] = judged.group;
+                answers[next] = queues.settle(judged.answer, group, next as u32, length);
                 next += 1;
                 events += 1;
-                continue;
             }
             Step::Pick(moment) => {
-                let left = dequeue(
-                    &mut times,
-                    &mut handles,
-                    &mut bits,
-                    &mut fills,
-                    &mut firsts,
-                    &mut places,
-                    moment,
-                );
-                picked[picks] = left.handle;
+                let Picked::Leaves { class: _, entry } = queues.dequeue(moment) else {
+                    unreachable!()
+                };
+                picked[picks] = entry.handle;
                 moments[picks] = moment.0;
                 picks += 1;
-                free_at = moment.0 + sending_ticks(left.bits, rate);
+                free_at = moment.0 + sending_ticks(entry.bits, rate);
                 events += 1;
-                continue;
             }
         }
     }
 }
 
 // Runs a list of arrivals, from a starting place on, against a line, for at most so many events.
+// The lists are lent one by one: document 01 names them so, and refusal 28 speaks of their lengths.
 pub fn run(
     bridge: Bridge,
     waiting: Waiting,
@@ -485,19 +360,11 @@ pub fn run(
         ≡ run_gives (record { arrivals = arrivals.entry.now; ids = ids.now; octets = octets.now; rate = rate.0 }) budget
         (begun bridge waiting start free.0 answers.old picked.old moments.old) }
 {
-    let test = start_of(
-        arrivals.len(),
-        ids.len(),
-        octets.len(),
-        start,
-        answers.len(),
-        rate,
-        free,
-        waiting,
-    );
-    match test {
-        Start::NotRun(why) => refused(why, bridge, waiting, start, free),
-        Start::Runs => run_events(
+    let lists = lists_fit(arrivals, ids, octets, start, answers);
+    let line = line_fits(rate, free);
+    match start_of(lists, line, &waiting) {
+        Err(why) => refused(why, bridge, waiting, start, free),
+        Ok(()) => run_events(
             bridge, waiting, arrivals, ids, octets, start, rate, free, budget, answers, picked,
             moments,
         ),

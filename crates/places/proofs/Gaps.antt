@@ -1,5 +1,5 @@
 -- Laws of closing a gap: one step of the loop and its end; what stands where afterwards. Assumes nothing.
-use mathlib.Core.Path.{◌≡◌, refl, ◌∙◌}
+use mathlib.Core.Path.{◌≡◌, refl, sym, ◌∙◌}
 use mathlib.Core.Bool.{Bool, true, false}
 use mathlib.Core.List.{List}
 use mathlib.Core.Logic.{◌⊎◌, inl, inr, ⊎_elim}
@@ -9,18 +9,9 @@ use lib.Dec.{ltb}
 use lib.ListN.{length, get_or, set, length-set}
 use lib.Seq.{get_or-set_same, get_or-set_other}
 use borrow.Author.Tests.{ltb-true, ltb-false}
+use Rattle.std.specs.List.{CopiedTo, SameBelow, SameFrom}
+use Rattle.std.proofs.lemmas.Grind.{same_number_lists}
 use Rattle.places.specs.Places.{moved, closed}
-use Rattle.places.proofs.Counts.{left, over}
-
--- ---- the loop
-module _ (l : List ℕ) (i e : ℕ) where
-  pub gap_goes : i + 1 < e → closed (set l i (get_or l (i + 1) 0)) (i + 1) e ≡ closed l i e
-  unfolding closed moved
-  gap_goes h = rw (left (i + 1) e h)
-
-  pub gap_done : e ≤ i + 1 → closed l i e ≡ l
-  unfolding closed moved
-  gap_done h = rw (over (i + 1) e h)
 
 -- ---- what stands where
 moved_length : (l : List ℕ) (i n : ℕ) → length (moved l i n) ≡ length l
@@ -62,3 +53,19 @@ module _ (l : List ℕ) (at end : ℕ) where
   pub gap_down : (j : ℕ) → end ≤ length l → at ≤ j → j + 1 < end → get_or (closed l at end) j 0 ≡ get_or l (j + 1) 0
   unfolding closed
   gap_down j h a b = moved_down l at (end - (at + 1)) j (omega arith) a (omega arith)
+
+-- what the library's copying of the stretch after the gap, one place down, leaves is the gap closed
+pub gap_closed : (l r : List ℕ) (at end : ℕ) → at < end → end ≤ length l → length r ≡ length l
+    → CopiedTo l r (at + 1) at (end - (at + 1)) × SameBelow l r at × SameFrom l r (at + (end - (at + 1))) → r ≡ closed l at end
+unfolding closed
+gap_closed l r at end h e s c =
+    let n = end - (at + 1) in
+    same_number_lists r (moved l at n) (s ∙ sym (moved_length l at n)) (λ k i. go k i (ltb k at) (ltb k (at + n)) refl refl) where
+      go : (k : ℕ) → k < length r → (x y : Bool) → ltb k at ≡ x → ltb k (at + (end - (at + 1))) ≡ y → get_or r k 0 ≡ get_or (moved l at (end - (at + 1))) k 0
+      go k i true y p q = let z = ltb-true k at p in c.1 k 0 z ∙ sym (moved_other l at (end - (at + 1)) k (inl z))
+      go k i false true p q =
+          let z = ltb-false k at p in
+          let y = ltb-true k (at + (end - (at + 1))) q in
+          let n : (at + 1) + (k - at) ≡ k + 1 = omega arith in
+          c.0 k 0 z y ∙ rw n (sym (moved_down l at (end - (at + 1)) k (omega arith) z y))
+      go k i false false p q = let z = ltb-false k (at + (end - (at + 1))) q in c.2 k 0 z ∙ sym (moved_other l at (end - (at + 1)) k (inr z))

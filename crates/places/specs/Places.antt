@@ -1,12 +1,10 @@
 -- Document 01, 'Waiting and picking': what putting an entry into a class and taking one out leave in the arrays, for every argument.
 -- w is the waiting places, fs their fills; c a class, k a place in it, e an entry; l is a list of numbers.
-use Rattle.std.specs.Prelude.{ℕ, zero, suc, ◌+◌, ◌*◌, ◌-◌, Bool, true, false, cond, ◌&&◌, List, ltb, get_or, set}
+use Rattle.std.specs.Prelude.{ℕ, zero, suc, ◌+◌, ◌*◌, ◌-◌, Bool, true, false, cond, ◌&&◌, List, Option, Some, None, ltb, get_or, set}
 use Rattle.quantity.specs.Ranges.{in_range}
 use Rattle.quantity.specs.declared.Item.TheVariants.{Class}
 use Rattle.places.specs.declared.Waiting.{Waiting}
 use Rattle.places.specs.declared.Entry.{Entry}
-use Rattle.places.specs.declared.Picked.TheVariants.{Leaves, Nothing}
-use Rattle.places.specs.declared.AfterPick.{AfterPick}
 use Rattle.places.specs.Queue.{places, count_of, entry_at}
 
 -- ---- putting an entry in
@@ -54,9 +52,14 @@ without w c k = record {
   fills = set w.fills c (get_or w.fills c 0 - 1);
 }
 
+-- the entry that left, where there was one, and the places after it
+pub record AfterTake : Type 0 where
+  pub left : Option Entry
+  pub waiting : Waiting
+
 -- the entry at place k of class c leaves, where there is one; else nothing changes
-unfoldable pub take_gives : Waiting → ℕ → ℕ → AfterPick
+unfoldable pub take_gives : Waiting → ℕ → ℕ → AfterTake
 take_gives w c k =
     cond (ltb k (count_of w.fills c))
-    (record { answer = Leaves c (entry_at w (c * places + k)); waiting = without w c k })
-    (record { answer = Nothing; waiting = w })
+    (record { left = Some (entry_at w (c * places + k)); waiting = without w c k })
+    (record { left = None; waiting = w })

@@ -1,11 +1,10 @@
-// The places of the classes, on lent arrays of numbers: how a class stands in them, an entry put last into a class, and one
-// taken out of it.
+// The places of the classes: how a class stands in them, an entry put last into a class, and one taken out of it.
 // What an entry holds is not tested here, and which entry leaves is the caller's business.
 #![tactic(auto)]
 
-ghost use Rattle.std.specs.Prelude.{◌≡◌, ◌<◌, ◌≤◌, get_or};
-ghost use Rattle.places.specs.Queue.{all_places, lists};
-ghost use Rattle.places.specs.Places.{put_gives, closed, take_gives};
+ghost use Rattle.std.specs.Prelude.{◌≡◌, ◌<◌};
+ghost use Rattle.places.specs.Queue.{all_places, entry_at};
+ghost use Rattle.places.specs.Places.{put_gives, take_gives};
 
 use quantity::{Bits, Refusal, Ticks};
 
@@ -19,6 +18,7 @@ pub const PLACES: usize = 32;
 pub const FULL: u8 = PLACES as u8;
 
 // The entries of class c stand from place 32·c on, in order of entering; as many as its fill says.
+// Four arrays and not one of entries: `ReachedIsSound` and the other theorems of `waiting` speak of these fields.
 #[derive(Clone, Copy, Drop)]
 pub struct Waiting {
     pub times: [u64; 256],
@@ -35,6 +35,7 @@ pub struct Entry {
     pub bits: Bits,
 }
 
+// What a pick answers. Not an Option within a Result: document 01 has three answers, each with a number of its own.
 #[derive(Clone, Copy, Drop)]
 pub enum Picked {
     // The entry that leaves, and its class.
@@ -44,103 +45,68 @@ pub enum Picked {
     Refused(Refusal),
 }
 
+// What a call on a whole `Waiting` answers, and the places after it.
 #[derive(Clone, Copy, Drop)]
-pub struct AfterPick {
-    pub answer: Picked,
+pub struct After<A> {
+    pub answer: A,
     pub waiting: Waiting,
 }
 
-// Puts an entry last into a class, where it has room, and says whether it did; what the entry holds is not tested.
-pub fn put(
-    times: &mut [u64; 256],
-    handles: &mut [u32; 256],
-    bits: &mut [u64; 256],
-    fills: &mut [u8; 8],
-    class: u8,
-    entry: Entry,
-) -> bool
-    ensures { record { placed = result; waiting = lists times.new handles.new bits.new fills.new }
-        ≡ put_gives (lists times.old handles.old bits.old fills.old) class entry }
-{
-    if class > LAST_CLASS {
-        return false;
+impl Waiting {
+    // Puts an entry last into a class, where it has room, and says whether it did; what the entry holds is not tested.
+    pub fn put(&mut self, class: u8, entry: Entry) -> bool
+        ensures { record { placed = result; waiting = self.new } ≡ put_gives self.old class entry }
+    {
+        if class > LAST_CLASS {
+            return false;
+        }
+        let c = class as usize;
+        let n = self.fills[c];
+        if n >= FULL {
+            return false;
+        }
+        let at = c * PLACES + n as usize;
+        self.times[at] = entry.time.0;
+        self.handles[at] = entry.handle;
+        self.bits[at] = entry.bits.0;
+        self.fills[c] = n + 1;
+        true
     }
-    let c = class as usize;
-    let n = fills[c];
-    if n >= FULL {
-        return false;
-    }
-    let at = c * PLACES + n as usize;
-    times[at] = entry.time.0;
-    handles[at] = entry.handle;
-    bits[at] = entry.bits.0;
-    fills[c] = n + 1;
-    true
-}
 
-// Gives the number at a place and closes the gap: what stands after it, up to an end, moves one place down.
-fn close_up(l: &mut [u64; 256], at: usize, end: usize) -> u64
-    requires { (at < end) × (end ≤ all_places) }
-    ensures { (result ≡ get_or l.old at 0) × (l.new ≡ closed l.old at end) }
-{
-    let out = l[at];
-    let mut i = at;
-    while i + 1 < end {
-        let x = l[i + 1];
-        l[i] = x;
-        i += 1;
+    // The entry that stands at a place of the arrays.
+    fn entry_at(&self, at: usize) -> Entry
+        requires { at < all_places }
+        ensures { result ≡ entry_at self.now at }
+    {
+        Entry {
+            handle: self.handles[at],
+            time: Ticks(self.times[at]),
+            bits: Bits(self.bits[at]),
+        }
     }
-    out
-}
 
-// The same for handles, which are narrower.
-fn close_up_handles(l: &mut [u32; 256], at: usize, end: usize) -> u32
-    requires { (at < end) × (end ≤ all_places) }
-    ensures { (result ≡ get_or l.old at 0) × (l.new ≡ closed l.old at end) }
-{
-    let out = l[at];
-    let mut i = at;
-    while i + 1 < end {
-        let x = l[i + 1];
-        l[i] = x;
-        i += 1;
+    // Takes out the entry at a place of a class, where there is one; the entries after it move one place down.
+    pub fn take_out(&mut self, class: u8, place: usize) -> Option<Entry>
+        ensures { record { left = result; waiting = self.new } ≡ take_gives self.old class place }
+    {
+        if class > LAST_CLASS {
+            return None;
+        }
+        let c = class as usize;
+        let n = self.fills[c];
+        if n > FULL {
+            return None;
+        }
+        if place >= n as usize {
+            return None;
+        }
+        let at = c * PLACES + place;
+        let end = c * PLACES + n as usize;
+        let entry = self.entry_at(at);
+        self.times.copy_within(at + 1..end, at);
+        self.handles.copy_within(at + 1..end, at);
+        self.bits.copy_within(at + 1..end, at);
+        self.fills[c] = n - 1;
+        Some(entry)
     }
-    out
-}
-
-// Takes out the entry at a place of a class, where there is one; the entries after it move one place down.
-pub fn take_out(
-    times: &mut [u64; 256],
-    handles: &mut [u32; 256],
-    bits: &mut [u64; 256],
-    fills: &mut [u8; 8],
-    class: u8,
-    place: usize,
-) -> Picked
-    ensures { record { answer = result; waiting = lists times.new handles.new bits.new fills.new }
-        ≡ take_gives (lists times.old handles.old bits.old fills.old) class place }
-{
-    if class > LAST_CLASS {
-        return Picked::Nothing;
-    }
-    let c = class as usize;
-    let n = fills[c];
-    if n > FULL {
-        return Picked::Nothing;
-    }
-    if place >= n as usize {
-        return Picked::Nothing;
-    }
-    let at = c * PLACES + place;
-    let end = c * PLACES + n as usize;
-    fills[c] = n - 1;
-    let time = close_up(times, at, end);
-    let handle = close_up_handles(handles, at, end);
-    let charge = close_up(bits, at, end);
-    let entry = Entry {
-        handle,
-        time: Ticks(time),
-        bits: Bits(charge),
-    };
-    Picked::Leaves { class, entry }
 }

@@ -13,9 +13,8 @@ use Rattle.records.specs.declared.Group.{Group}
 use Rattle.records.specs.declared.Answer.{Answer}
 use Rattle.records.specs.declared.Answer.TheVariants.{Released, Discarded, Refused}
 use Rattle.places.specs.declared.Waiting.{Waiting}
-use Rattle.classes.specs.Calls.{enter_gives}
-use Rattle.classes.specs.declared.Entered.{Entered}
-use Rattle.classes.specs.declared.Entered.TheVariants.{Done, Refused as NotEntered}
+use Rattle.classes.specs.Calls.{Entered, enter_gives}
+use Rattle.std.specs.Prelude.{Ok, Err}
 use Rattle.waiting.specs.Answers.{entered_number}
 use Rattle.bridge.specs.Tables.{group_at, stream_at}
 use Rattle.bridge.specs.History.{Call, reply, after_call, Frame, Outcome, released, outcome_of, outcome}
@@ -62,8 +61,8 @@ module _ (i : Input) (b : Bridge) (k : ℕ) where
 module _ (i : Input) (b : Bridge) (w : Waiting) (k : ℕ) (xs : List Call) (hs : List Handed) (more : Among i (after_call b (frame_call i k)) xs hs) where
   enters_by : (T : ℕ) → outcome b (frame_call i k) ≡ released (judged_at i b k T) ∷ [] → (a : Entered) → Among i b (frame_call i k ∷ xs) (entering_by (handed (home_at i b k) k (octets_at i b k) T) a ++ hs)
   unfolding entering_by
-  enters_by T o Done = enters (judged_at i b k T) o (own_entry i b k T) more
-  enters_by T o (NotEntered why) = passes more
+  enters_by T o (Ok done) = enters (judged_at i b k T) o (own_entry i b k T) more
+  enters_by T o (Err why) = passes more
 
   pub enters_of : (a : Answer) → outcome b (frame_call i k) ≡ becomes i b k a → Among i b (frame_call i k ∷ xs) (entering_of w (home_at i b k) k (octets_at i b k) a ++ hs)
   unfolding entering_of outcome_of
@@ -91,9 +90,9 @@ module _ (i : Input) (s : State) (xs : List Call) (ns : List ℕ) (hs : List Han
   settles_by : (T : Ticks) → outcome b (frame_call i k) ≡ released (judged_at i b k T.0) ∷ [] → (a : Entered) → (settled s.waiting g k n (Released T)).number ≡ entered_number a → Ways (Released T)
       → Settles i b (frame_call i k ∷ xs) ((settled s.waiting g k n (Released T)).number ∷ ns) (entering_by (handed g k n T.0) a ++ hs)
   unfolding entering_by answer_number
-  settles_by T o Done q v = room (judged_at i b k T.0) o q (own_entry i b k T.0) more
-  settles_by T o (NotEntered why) q (inl v) = let z = v.zero in let y = (refusal_number why).0 in absurd (omega arith)
-  settles_by T o (NotEntered why) q (inr v) = full (judged_at i b k T.0) o (⊎_elim (λ y. absurd (v.some y)) (λ y. y.1) v.number) more
+  settles_by T o (Ok done) q v = room (judged_at i b k T.0) o q (own_entry i b k T.0) more
+  settles_by T o (Err why) q (inl v) = let z = v.zero in let y = (refusal_number why).0 in absurd (omega arith)
+  settles_by T o (Err why) q (inr v) = full (judged_at i b k T.0) o (⊎_elim (λ y. absurd (v.some y)) (λ y. y.1) v.number) more
 
   pub settles_of : (a : Answer) → outcome b (frame_call i k) ≡ becomes i b k a → (reply b (frame_call i k)).number ≡ answer_number a → Ways a
       → Settles i b (frame_call i k ∷ xs) ((settled s.waiting g k n a).number ∷ ns) (entering_of s.waiting g k n a ++ hs)

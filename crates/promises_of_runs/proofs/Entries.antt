@@ -8,11 +8,10 @@ use Rattle.bridge.specs.Tables.{fresh_bridge}
 use Rattle.bridge.specs.History.{Call, after_call, Frame, outcome, outcomes}
 use Rattle.bridge.specs.Spans.{eligible}
 use Rattle.bridge.specs.declared.Bridge.{Bridge}
-use Rattle.line.specs.Run.{Input, State, settled_at, frame_at, group_of, arrived, picked_at, begun, start_at, stopped, run_gives, run_for, started_by}
+use Rattle.line.specs.Run.{Input, State, settled_at, frame_at, group_of, arrived, picked_at, begun, Start, start_at, stopped, run_gives, run_for, started_by}
 use Rattle.line.specs.Events.{stops, arrives, picks, frames_from, numbers, entering, entrances}
 use Rattle.line.specs.declared.Handed.{Handed}
-use Rattle.line.specs.declared.Start.{Start}
-use Rattle.line.specs.declared.Start.TheVariants.{Runs, NotRun}
+use Rattle.std.specs.Prelude.{Ok, Err}
 use Rattle.line.proofs.Happening.{arrival_ways, arrived_sound, picked_sound}
 use Rattle.line.proofs.Promises.{runs}
 use Rattle.promises_of_runs.specs.Steps.{Run, beginning, ran_on, frames_of, Step, call, run, after_step, calls_of_step, calls_of}
@@ -81,8 +80,8 @@ run_enters_released b r = go (start_at i s) refl where
   s = beginning b r
 
   go : (x : Start) → start_at i s ≡ x → Among i b (frames_from i r.start ((started_by i r.budget s x).ran.next - r.start)) (entered_by i r.budget s x)
-  go (NotRun why) e = among_none i b (frames_from i r.start ((started_by i r.budget s (NotRun why)).ran.next - r.start))
-  go Runs e = ran b r
+  go (Err why) e = among_none i b (frames_from i r.start ((started_by i r.budget s (Err why)).ran.next - r.start))
+  go (Ok runs) e = ran b r
 
 -- ---- the span limit of entries
 same : {i : Input} {b : Bridge} {h : Handed} {f : Frame} → EntryOf i b h f → sent_by i h ≡ record { stream = f.stream; bits = f.bits; tick = f.time }

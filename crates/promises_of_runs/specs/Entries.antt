@@ -1,6 +1,6 @@
 -- Document 01, 'A run against a line' and demand 3: what enters the queues in a run are released frames of the history, and the span limit said of entries.
 -- i is a run's input, s a state, t a run taken event by event; b is a bridge, xs a list of calls, h what enters a class, f a frame, r a run, ss a list of steps.
-use Rattle.std.specs.Prelude.{ℕ, zero, suc, ◌≡◌, List, [], ◌∷◌, ◌++◌, length, get_or}
+use Rattle.std.specs.Prelude.{ℕ, zero, suc, ◌≡◌, Ok, Err, List, [], ◌∷◌, ◌++◌, length, get_or}
 use Rattle.quantity.specs.Numbers.{number_of}
 use Rattle.quantity.specs.declared.Refusal.TheVariants.{ClassFull}
 use Rattle.bridge.specs.Tables.{fresh_bridge, group_at}
@@ -10,12 +10,10 @@ use Rattle.bridge.specs.declared.Bridge.{Bridge}
 use Rattle.event.specs.declared.Stop.{Stop}
 use Rattle.event.specs.declared.Step.{Step as Next}
 use Rattle.event.specs.declared.Step.TheVariants.{Ends, Arrival, Pick}
-use Rattle.line.specs.Run.{Input, State, step, arrived, picked_at, start_at}
+use Rattle.line.specs.Run.{Input, State, step, arrived, picked_at, Start, start_at}
 use Rattle.line.specs.Events.{Takes, frames_from, numbers, entering, entrances}
 use Rattle.line.specs.Promises.{Sound}
 use Rattle.line.specs.declared.Handed.{Handed}
-use Rattle.line.specs.declared.Start.{Start}
-use Rattle.line.specs.declared.Start.TheVariants.{Runs, NotRun}
 use Rattle.promises_of_runs.specs.Steps.{Run, beginning, frames_of, Step, call, run, after_step, tables_after}
 
 -- ---- entries and frames
@@ -67,8 +65,8 @@ EnteringIsEntrances = (i : Input) (left k : ℕ) (why : Stop) (s s' : State) (t 
 
 -- nothing enters where the run is refused
 unfoldable pub entered_by : Input → ℕ → State → Start → List Handed
-entered_by i budget s Runs = entering_for i budget s
-entered_by i budget s (NotRun why) = []
+entered_by i budget s (Ok runs) = entering_for i budget s
+entered_by i budget s (Err why) = []
 
 unfoldable pub entered_in : Bridge → Run → List Handed
 entered_in b r = entered_by r.input r.budget (beginning b r) (start_at r.input (beginning b r))

@@ -3,7 +3,7 @@
 // live with the programs.
 #![tactic(auto)]
 
-ghost use Rattle.std.specs.Prelude.{◌≡◌, ◌&&◌, min, ltb, leb, length};
+ghost use Rattle.std.specs.Prelude.{◌≡◌, ◌&&◌, ltb, leb, length};
 ghost use Rattle.replay_text.specs.Lines.{line_room};
 ghost use Rattle.replay_account.specs.Account.{account_of, part_put};
 ghost use Rattle.replay_account.specs.Steps.{shown_of, Within, LineAt, next_after};
@@ -60,20 +60,14 @@ pub fn account_of(ran: Ran) -> Account
 
 // ---- the lines, by their numbers
 
-fn smaller(a: usize, b: usize) -> usize
-    ensures { result ≡ min a b }
-{
-    if a < b { a } else { b }
-}
-
 // The same account, with no more frames and picks than the lists hold.
 fn shown(account: Account, answers: usize, picked: usize, moments: usize) -> Account
     ensures { result ≡ shown_of account answers picked moments }
 {
     let last = account.last;
     Account {
-        frames: smaller(account.frames, answers),
-        picks: smaller(smaller(account.picks, picked), moments),
+        frames: account.frames.min(answers),
+        picks: account.picks.min(picked).min(moments),
         last,
     }
 }

@@ -12,14 +12,13 @@ use Rattle.quantity.specs.declared.Refusal.{Refusal}
 use Rattle.quantity.specs.declared.Refusal.TheVariants.{Unsound, LengthRange, TooLate, ClassRange, ClassFull}
 use Rattle.places.specs.declared.Waiting.{Waiting}
 use Rattle.places.specs.declared.Entry.{Entry}
-use Rattle.classes.specs.declared.Entered.TheVariants.{Done}
-use Rattle.places.specs.declared.Picked.TheVariants.{Leaves, Nothing, Refused as NotPicked}
+use Rattle.std.specs.Prelude.{Option, Some, None, Ok}
+use Rattle.places.specs.declared.Picked.TheVariants.{Nothing, Refused as NotPicked}
 use Rattle.classes.specs.declared.Due.{Due}
-use Rattle.classes.specs.declared.Due.TheVariants.{From, NoneDue}
 use Rattle.places.specs.Queue.{places, count_of, entry_at}
 use Rattle.classes.specs.Soundness.{class_sound, all_sound}
 use Rattle.places.specs.Places.{with_last, has_room, without, take_gives}
-use Rattle.classes.specs.Calls.{not_entered, enter_gives, due_of, take_due, pick_gives}
+use Rattle.classes.specs.Calls.{not_entered, enter_gives, due_of, picked_after, take_due, pick_gives}
 
 differ : (a b : Refusal) → a ≡ b → (number_of a ≡ number_of b → ⊥) → ⊥
 differ a b e n = n (ap number_of e)
@@ -33,7 +32,7 @@ pub record Refusing (w : Waiting) (c : ℕ) (e : Entry) : Type 0 where
   pub full : why ≡ ClassFull → (in_range Class c ≡ true) × ((class_sound w.times w.bits w.fills c ≡ true) × (has_room w.fills c ≡ false))
 
 pub record Accepting (w : Waiting) (c : ℕ) (e : Entry) : Type 0 where
-  pub gives : enter_gives w c e ≡ record { answer = Done; waiting = with_last w c e }
+  pub gives : enter_gives w c e ≡ record { answer = Ok tt; waiting = with_last w c e }
   pub class : in_range Class c ≡ true
   pub sound : class_sound w.times w.bits w.fills c ≡ true
   pub charge : in_range Charge e.bits.0 ≡ true
@@ -60,23 +59,22 @@ pub record NotPicking (w : Waiting) (m : ℕ) : Type 0 where
 
 pub record Idle (w : Waiting) (m : ℕ) : Type 0 where
   pub gives : pick_gives w m ≡ record { answer = Nothing; waiting = w }
-  pub due : due_of w.times w.fills m ≡ NoneDue
+  pub due : due_of w.times w.fills m ≡ None
 
 pub record Taking (w : Waiting) (m : ℕ) : Type 0 where
-  pub class : ℕ
-  pub place : ℕ
-  pub gives : pick_gives w m ≡ take_gives w class place
+  pub chosen : Due
+  pub gives : pick_gives w m ≡ picked_after chosen.class (take_gives w chosen.class chosen.place)
   pub sound : all_sound w.times w.bits w.fills ≡ true
-  pub due : due_of w.times w.fills m ≡ From class place
+  pub due : due_of w.times w.fills m ≡ Some chosen
 
 pub pick_ways : (w : Waiting) (m : ℕ) → NotPicking w m ⊎ (Idle w m ⊎ Taking w m)
 unfolding pick_gives take_due
 pick_ways w m = go (all_sound w.times w.bits w.fills) (due_of w.times w.fills m) refl refl where
-  go : (s : Bool) (d : Due) → all_sound w.times w.bits w.fills ≡ s → due_of w.times w.fills m ≡ d → NotPicking w m ⊎ (Idle w m ⊎ Taking w m)
+  go : (s : Bool) (d : Option Due) → all_sound w.times w.bits w.fills ≡ s → due_of w.times w.fills m ≡ d → NotPicking w m ⊎ (Idle w m ⊎ Taking w m)
   go false d p q = inl (record { gives = rw p refl; sound = p })
-  go true NoneDue p q = inr (inl (record { gives = rw (p, q) refl; due = q }))
-  go true (From c k) p q = inr (inr (record { class = c; place = k; gives = rw (p, q) refl; sound = p; due = q }))
+  go true None p q = inr (inl (record { gives = rw (p, q) refl; due = q }))
+  go true (Some d) p q = inr (inr (record { chosen = d; gives = rw (p, q) refl; sound = p; due = q }))
 
-pub taken : (w : Waiting) (c k : ℕ) → k < count_of w.fills c → take_gives w c k ≡ record { answer = Leaves c (entry_at w (c * places + k)); waiting = without w c k }
+pub taken : (w : Waiting) (c k : ℕ) → k < count_of w.fills c → take_gives w c k ≡ record { left = Some (entry_at w (c * places + k)); waiting = without w c k }
 unfolding take_gives
 taken w c k h = rw (lt-ltb k (count_of w.fills c) h) refl

@@ -6,11 +6,10 @@ use Prim.Native.Nat.{ℕ, zero, suc, ◌≤◌, ◌<◌}
 use native.Mathlib.Omega.{arith}
 use lib.Dec.{ltb, leb}
 use borrow.Author.Tests.{leb-true, leb-false, ltb-true, ltb-false}
-use Rattle.quantity.specs.declared.Ticks.{Ticks}
+use Rattle.std.specs.Prelude.{Option, Some, None}
 use Rattle.places.specs.declared.Waiting.{Waiting}
 use Rattle.firsts.specs.declared.First.{First}
-use Rattle.firsts.specs.declared.First.TheVariants.{At, NoEntry}
-use Rattle.classes.specs.declared.Due.TheVariants.{From, NoneDue}
+use Rattle.classes.specs.declared.Due.{Due}
 use Rattle.places.specs.Queue.{classes, queue}
 use Rattle.waiting.specs.Rules.{Each, none, After}
 use Rattle.firsts.specs.Firsts.{first_in, first_of}
@@ -20,15 +19,16 @@ use Rattle.waiting.proofs.Standing.{queue_times, queue_beyond}
 
 -- ---- what the search through the classes finds
 -- the entry that goes first, if there is one, is after m
-abbrev pub NotYet : ℕ → First → Type 0
-NotYet m f = (k : ℕ) (t : Ticks) → f ≡ At k t → m < t.0
+abbrev pub NotYet : ℕ → Option First → Type 0
+NotYet m o = (f : First) → o ≡ Some f → m < f.time.0
 
-pub record Chosen (ts fs : List ℕ) (m n c k : ℕ) : Type 0 where
-  pub below : c < n
-  pub time : Ticks
-  pub first : first_of ts fs c ≡ At k time
-  pub early : time.0 ≤ m
-  pub higher : (d : ℕ) → c < d → d < n → NotYet m (first_of ts fs d)
+pub record Chosen (ts fs : List ℕ) (m n : ℕ) (d : Due) : Type 0 where
+  pub below : d.class < n
+  pub entry : First
+  pub first : first_of ts fs d.class ≡ Some entry
+  pub place : entry.place ≡ d.place
+  pub early : entry.time.0 ≤ m
+  pub higher : (c : ℕ) → d.class < c → c < n → NotYet m (first_of ts fs c)
 
 module _ (ts fs : List ℕ) (m : ℕ) where
   not_below : (j c : ℕ) → ((d : ℕ) → c < d → d < j → NotYet m (first_of ts fs d)) → NotYet m (first_of ts fs j) → (d : ℕ) → c < d → d < suc j → NotYet m (first_of ts fs d)
@@ -37,39 +37,41 @@ module _ (ts fs : List ℕ) (m : ℕ) where
     go true q = lower d a (ltb-true d j q)
     go false q = let z = ltb-false d j q in let y : d ≡ j = omega arith in rw y here
 
-  pub chosen : (n c k : ℕ) → due_below ts fs m n ≡ From c k → Chosen ts fs m n c k
+  pub chosen : (n : ℕ) (d : Due) → due_below ts fs m n ≡ Some d → Chosen ts fs m n d
   unfolding due_below due_or
-  chosen zero c k h = let z : ◌≡◌ {A = ℕ} 0 1 = cc in absurd (omega arith)
-  chosen (suc j) c k h = go (chosen j c k) (first_of ts fs j) refl where
-    widen : NotYet m (first_of ts fs j) → Chosen ts fs m j c k → Chosen ts fs m (suc j) c k
+  chosen zero d h = absurd (cc)
+  chosen (suc j) d h = go (chosen j d) (first_of ts fs j) refl where
+    widen : NotYet m (first_of ts fs j) → Chosen ts fs m j d → Chosen ts fs m (suc j) d
     widen here x = let b = x.below in record {
       below = omega arith;
-      time = x.time;
+      entry = x.entry;
       first = x.first;
+      place = x.place;
       early = x.early;
-      higher = not_below j c x.higher here;
+      higher = not_below j d.class x.higher here;
     }
 
-    go : (due_below ts fs m j ≡ From c k → Chosen ts fs m j c k) → (f : First) → first_of ts fs j ≡ f → Chosen ts fs m (suc j) c k
-    go lower NoEntry e = widen (λ i t q. let z : ◌≡◌ {A = ℕ} 0 1 = cc in absurd (omega arith)) (lower (rw e at h))
-    go lower (At i t) e = go' (leb t.0 m) refl where
-      go' : (b : Bool) → leb t.0 m ≡ b → Chosen ts fs m (suc j) c k
+    go : (due_below ts fs m j ≡ Some d → Chosen ts fs m j d) → (o : Option First) → first_of ts fs j ≡ o → Chosen ts fs m (suc j) d
+    go lower None e = widen (λ f q. absurd (cc)) (lower (rw e at h))
+    go lower (Some f) e = go' (leb f.time.0 m) refl where
+      go' : (b : Bool) → leb f.time.0 m ≡ b → Chosen ts fs m (suc j) d
       go' true q =
-          let g : From j i ≡ From c k = rw (e, q) at h in
-          let u : j ≡ c = cc in
-          let v : i ≡ k = cc in
+          let g : Some (record { class = j; place = f.place }) ≡ Some d = rw (e, q) at h in
+          let v : record { class = j; place = f.place } ≡ d = cc in
+          let u : j ≡ d.class = ap (λ (x : Due). x.class) v in
           record {
             below = omega arith;
-            time = t;
-            first = ap (first_of ts fs) (sym u) ∙ e ∙ ap (λ (x : ℕ). At x t) v;
-            early = leb-true t.0 m q;
-            higher = λ d a b. absurd (omega arith);
+            entry = f;
+            first = ap (first_of ts fs) (sym u) ∙ e;
+            place = ap (λ (x : Due). x.place) v;
+            early = leb-true f.time.0 m q;
+            higher = λ c a b. absurd (omega arith);
           }
       go' false q =
-          let l = leb-false t.0 m q in
-          widen (λ x y p. let z : t ≡ y = cc in rw z at l) (lower (rw (e, q) at h))
+          let l = leb-false f.time.0 m q in
+          widen (λ x p. let z : f ≡ x = cc in rw z at l) (lower (rw (e, q) at h))
 
-  pub none_chosen : (n : ℕ) → due_below ts fs m n ≡ NoneDue → (d : ℕ) → d < n → NotYet m (first_of ts fs d)
+  pub none_chosen : (n : ℕ) → due_below ts fs m n ≡ None → (d : ℕ) → d < n → NotYet m (first_of ts fs d)
   unfolding due_below due_or
   none_chosen zero h d l = absurd (omega arith)
   none_chosen (suc j) h d l = go (none_chosen j) (first_of ts fs j) refl where
@@ -79,12 +81,12 @@ module _ (ts fs : List ℕ) (m : ℕ) where
       go'' true q = lower d (ltb-true d j q)
       go'' false q = let z = ltb-false d j q in let y : d ≡ j = omega arith in rw y here
 
-    go : (due_below ts fs m j ≡ NoneDue → (i : ℕ) → i < j → NotYet m (first_of ts fs i)) → (f : First) → first_of ts fs j ≡ f → NotYet m (first_of ts fs d)
-    go lower NoEntry e = join (λ i t q. let z : ◌≡◌ {A = ℕ} 0 1 = cc in absurd (omega arith)) (lower (rw e at h))
-    go lower (At i t) e = go' (leb t.0 m) refl where
-      go' : (b : Bool) → leb t.0 m ≡ b → NotYet m (first_of ts fs d)
-      go' true q = let g : From j i ≡ NoneDue = rw (e, q) at h in let z : ◌≡◌ {A = ℕ} 0 1 = cc in absurd (omega arith)
-      go' false q = let x = leb-false t.0 m q in join (λ y u p. let z : t ≡ u = cc in rw z at x) (lower (rw (e, q) at h))
+    go : (due_below ts fs m j ≡ None → (i : ℕ) → i < j → NotYet m (first_of ts fs i)) → (o : Option First) → first_of ts fs j ≡ o → NotYet m (first_of ts fs d)
+    go lower None e = join (λ f q. absurd (cc)) (lower (rw e at h))
+    go lower (Some f) e = go' (leb f.time.0 m) refl where
+      go' : (b : Bool) → leb f.time.0 m ≡ b → NotYet m (first_of ts fs d)
+      go' true q = let g : ◌≡◌ {A = Option Due} (Some (record { class = j; place = f.place })) None = rw (e, q) at h in absurd (cc)
+      go' false q = let x = leb-false f.time.0 m q in join (λ y p. let z : f ≡ y = cc in rw z at x) (lower (rw (e, q) at h))
 
 -- ---- what that says of the entries
 module _ (w : Waiting) (c : ℕ) where
@@ -92,17 +94,17 @@ module _ (w : Waiting) (c : ℕ) where
   unfolding first_of
   first_in_law = ap first_in (sym (queue_times w c))
 
-  pub leads_class : (k : ℕ) (t : Ticks) → first_of w.times w.fills c ≡ At k t → Leads (queue w c) k t.0
-  leads_class k t e = leads (queue w c) k t.0 (sym first_in_law ∙ e)
+  pub leads_class : (f : First) → first_of w.times w.fills c ≡ Some f → Leads (queue w c) f.place f.time.0
+  leads_class f e = leads (queue w c) f (sym first_in_law ∙ e)
 
-  pub empty_class : first_of w.times w.fills c ≡ NoEntry → queue w c ≡ []
+  pub empty_class : first_of w.times w.fills c ≡ None → queue w c ≡ []
   empty_class e = no_one (queue w c) (sym first_in_law ∙ e)
 
   pub all_after : (m : ℕ) → NotYet m (first_of w.times w.fills c) → Each (After m) (queue w c)
   all_after m n = go (first_of w.times w.fills c) refl where
-    go : (f : First) → first_of w.times w.fills c ≡ f → Each (After m) (queue w c)
-    go NoEntry e = rw (empty_class e) none
-    go (At k t) e = let l = n k t e in each_more (λ x y. omega arith) (none_before (leads_class k t e))
+    go : (o : Option First) → first_of w.times w.fills c ≡ o → Each (After m) (queue w c)
+    go None e = rw (empty_class e) none
+    go (Some f) e = let l = n f e in each_more (λ x y. omega arith) (none_before (leads_class f e))
 
 -- from the last class on there is no entry
 pub all_classes_after : (w : Waiting) (m c : ℕ) → ((d : ℕ) → c ≤ d → d < classes → Each (After m) (queue w d)) → (d : ℕ) → c ≤ d → Each (After m) (queue w d)

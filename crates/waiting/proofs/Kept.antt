@@ -13,46 +13,48 @@ use Rattle.quantity.specs.declared.Item.TheVariants.{Class, Charge, EntryTime}
 use Rattle.quantity.specs.declared.Refusal.TheVariants.{ClassFull}
 use Rattle.quantity.proofs.Booleans.{both}
 use Rattle.quantity.proofs.Ranges.{within}
-use Rattle.quantity.specs.declared.Ticks.{Ticks}
 use Rattle.places.specs.declared.Waiting.{Waiting}
 use Rattle.places.specs.declared.Entry.{Entry}
-use Rattle.classes.specs.declared.Entered.TheVariants.{Done, Refused as NotEntered}
-use Rattle.classes.specs.declared.AfterEnter.{AfterEnter}
+use Rattle.std.specs.Prelude.{Option, Some, None, Ok, Err}
+use Rattle.places.specs.declared.After.{After}
 use Rattle.firsts.specs.declared.First.{First}
-use Rattle.firsts.specs.declared.First.TheVariants.{At, NoEntry}
+use Rattle.classes.specs.declared.Due.{Due}
 use Rattle.places.specs.Queue.{places, count_of, entry_at, entries_from, queue, Shaped}
 use Rattle.waiting.specs.Rules.{none, one}
 use Rattle.classes.specs.Soundness.{entry_sound}
 use Rattle.places.specs.Places.{with_last, has_room, AfterPut, put_gives, without}
-use Rattle.classes.specs.Calls.{not_entered, enter_gives, due_of, take_due, pick_gives}
+use Rattle.classes.specs.Calls.{Entered, not_entered, enter_gives}
 use Rattle.firsts.specs.Firsts.{first_from, first_in, first_of}
 use Rattle.places.proofs.Counts.{count_is, count_all}
 use Rattle.waiting.proofs.Lines.{times_of, Leads, each_join, each_split, each_head, same_front}
 use Rattle.waiting.proofs.Standing.{queue_length, last_entered, others_stay, ahead_length, stood, stands, others_remain, shaped_entered, shaped_left}
 use Rattle.waiting.proofs.SoundClasses.{Fine, AllSound, each_class, class_means, stays_sound}
-use Rattle.waiting.proofs.Choosing.{first_in_law, leads_class}
+use Rattle.waiting.proofs.Choosing.{Chosen, first_in_law, leads_class}
 
 -- ---- one entry more
 -- the first of a class that had the first f and n entries, with one more of time t behind them
-unfoldable pub or_last : First → ℕ → ℕ → First
-or_last NoEntry n t = At n (ticks t)
-or_last (At k s) n t = cond (ltb t s.0) (At n (ticks t)) (At k s)
+unfoldable pub last_beside : First → ℕ → ℕ → First
+last_beside f n t = cond (ltb t f.time.0) (record { place = n; time = ticks t }) f
 
-from_last : (p s k : ℕ) (l : List ℕ) (t : ℕ) → first_from p s k (l ++ (t ∷ [])) ≡ or_last (first_from p s k l) (k + length l) t
-unfolding first_from or_last
+unfoldable pub or_last : Option First → ℕ → ℕ → First
+or_last None n t = record { place = n; time = ticks t }
+or_last (Some f) n t = last_beside f n t
+
+from_last : (p s k : ℕ) (l : List ℕ) (t : ℕ) → first_from p s k (l ++ (t ∷ [])) ≡ last_beside (first_from p s k l) (k + length l) t
+unfolding first_from last_beside
 from_last p s k [] t = let z : k + 0 ≡ k = omega arith in rw z refl
 from_last p s k (x ∷ l) t = go (from_last k x (k + 1) l t) (from_last p s (k + 1) l t) (ltb x s) where
-  go : first_from k x (k + 1) (l ++ (t ∷ [])) ≡ or_last (first_from k x (k + 1) l) ((k + 1) + length l) t
-      → first_from p s (k + 1) (l ++ (t ∷ [])) ≡ or_last (first_from p s (k + 1) l) ((k + 1) + length l) t
+  go : first_from k x (k + 1) (l ++ (t ∷ [])) ≡ last_beside (first_from k x (k + 1) l) ((k + 1) + length l) t
+      → first_from p s (k + 1) (l ++ (t ∷ [])) ≡ last_beside (first_from p s (k + 1) l) ((k + 1) + length l) t
       → (b : Bool) → cond b (first_from k x (k + 1) (l ++ (t ∷ []))) (first_from p s (k + 1) (l ++ (t ∷ [])))
-      ≡ or_last (cond b (first_from k x (k + 1) l) (first_from p s (k + 1) l)) (k + suc (length l)) t
+      ≡ last_beside (cond b (first_from k x (k + 1) l) (first_from p s (k + 1) l)) (k + suc (length l)) t
   go new old true = let z : (k + 1) + length l ≡ k + suc (length l) = omega arith in rw z at new
   go new old false = let z : (k + 1) + length l ≡ k + suc (length l) = omega arith in rw z at old
 
-in-last : (l : List ℕ) (t : ℕ) → first_in (l ++ (t ∷ [])) ≡ or_last (first_in l) (length l) t
+in-last : (l : List ℕ) (t : ℕ) → first_in (l ++ (t ∷ [])) ≡ Some (or_last (first_in l) (length l) t)
 unfolding first_in first_from or_last
 in-last [] t = refl
-in-last (x ∷ l) t = from_last 0 x 1 l t ∙ ap (λ (n : ℕ). or_last (first_from 0 x 1 l) n t) (let z : 1 + length l ≡ suc (length l) = omega arith in z)
+in-last (x ∷ l) t = ap Some (from_last 0 x 1 l t ∙ ap (λ (n : ℕ). last_beside (first_from 0 x 1 l) n t) (let z : 1 + length l ≡ suc (length l) = omega arith in z))
 
 times_last : (q : List Entry) (e : Entry) → times_of (q ++ (e ∷ [])) ≡ times_of q ++ (e.time.0 ∷ [])
 times_last [] e = refl
@@ -68,9 +70,12 @@ first_same w v d e = first_in_law v d ∙ ap (λ (q : List Entry). first_in (tim
 
 -- ---- what a first says of the arrays
 module _ (w : Waiting) (c : ℕ) where
-  module _ (k : ℕ) (t : Ticks) (f : first_of w.times w.fills c ≡ At k t) where
-    pub lead : Leads (queue w c) k t.0
-    lead = leads_class w c k t f
+  module _ (x : First) (f : first_of w.times w.fills c ≡ Some x) where
+    abbrev k : ℕ
+    k = x.place
+
+    pub lead : Leads (queue w c) k x.time.0
+    lead = leads_class w c x f
 
     pub first_inside : k < count_of w.fills c
     first_inside =
@@ -84,8 +89,16 @@ module _ (w : Waiting) (c : ℕ) where
         same_front lead.ahead (entries_from w (c * places) k) lead.entry (entry_at w (c * places + k)) lead.behind (entries_from w ((c * places + k) + 1) (get_or w.fills c 0 - (k + 1)))
         (lead.place ∙ sym (ahead_length w c k s first_inside)) (sym lead.is ∙ stood w c k s first_inside)
 
-    pub first_time : Shaped w → (entry_at w (c * places + k)).time.0 ≡ t.0
+    pub first_time : Shaped w → (entry_at w (c * places + k)).time.0 ≡ x.time.0
     first_time s = sym (ap (λ (i : Entry). i.time.0) (first_parts s).1.0) ∙ lead.time
+
+-- the entry that is due goes first in its class, and stands there
+module _ (w : Waiting) (m n : ℕ) (d : Due) (x : Chosen w.times w.fills m n d) where
+  pub due_first : first_of w.times w.fills d.class ≡ Some (record { place = d.place; time = x.entry.time })
+  due_first = x.first ∙ ap (λ (k : ℕ). Some (record { place = k; time = x.entry.time })) x.place
+
+  pub due_inside : d.place < count_of w.fills d.class
+  due_inside = first_inside w d.class _ due_first
 
 -- ---- putting
 module _ (w : Waiting) (c : ℕ) (e : Entry) (s : Shaped w) (h : c ≤ 7) (room : get_or w.fills c 0 < places) where
@@ -98,14 +111,14 @@ module _ (w : Waiting) (c : ℕ) (e : Entry) (s : Shaped w) (h : c ≤ 7) (room 
             (rw (last_entered w c e s h room) (each_join own (one f none))),
       )
 
-  pub put_first : first_of (with_last w c e).times (with_last w c e).fills c ≡ or_last (first_of w.times w.fills c) (get_or w.fills c 0) e.time.0
+  pub put_first : first_of (with_last w c e).times (with_last w c e).fills c ≡ Some (or_last (first_of w.times w.fills c) (get_or w.fills c 0) e.time.0)
   put_first =
       let n = count_is w.fills c h (omega arith) in
       first_in_law (with_last w c e) c
       ∙ ap (λ (q : List Entry). first_in (times_of q)) (last_entered w c e s h room)
       ∙ ap first_in (times_last (queue w c) e)
       ∙ in-last (times_of (queue w c)) e.time.0
-      ∙ ap₂ (λ (f : First) (k : ℕ). or_last f k e.time.0) (sym (first_in_law w c)) (times_length (queue w c) ∙ queue_length w c ∙ sym n)
+      ∙ ap₂ (λ (f : Option First) (k : ℕ). Some (or_last f k e.time.0)) (sym (first_in_law w c)) (times_length (queue w c) ∙ queue_length w c ∙ sym n)
 
   pub put_first_other : (d : ℕ) → (d ≡ c → ⊥) → first_of (with_last w c e).times (with_last w c e).fills d ≡ first_of w.times w.fills d
   put_first_other d n = first_same w (with_last w c e) d (others_stay w c e s h room d n)
@@ -135,7 +148,7 @@ module _ (w : Waiting) (c k : ℕ) (s : Shaped w) (h : k < count_of w.fills c) w
 
 -- ---- without the tests
 pub enter_untested : (w : Waiting) (c : ℕ) (e : Entry) → AllSound w → c ≤ 7 → Fine e
-    → enter_gives w c e ≡ record { answer = cond (put_gives w c e).placed Done (NotEntered ClassFull); waiting = (put_gives w c e).waiting }
+    → enter_gives w c e ≡ record { answer = cond (put_gives w c e).placed (Ok tt) (Err ClassFull); waiting = (put_gives w c e).waiting }
 unfolding enter_gives put_gives not_entered entry_sound
 enter_untested w c e a h f =
     let z = both (in_range Charge e.bits.0) (in_range EntryTime e.time.0) f in
@@ -144,11 +157,7 @@ enter_untested w c e a h f =
       put : Bool → AfterPut
       put r = cond r (record { placed = true; waiting = with_last w c e }) (record { placed = false; waiting = w })
 
-      go : (r : Bool) → ◌≡◌ {A = AfterEnter} (cond (not r) (record { answer = NotEntered ClassFull; waiting = w }) (record { answer = Done; waiting = with_last w c e }))
-          (record { answer = cond (put r).placed Done (NotEntered ClassFull); waiting = (put r).waiting })
+      go : (r : Bool) → ◌≡◌ {A = After Entered} (cond (not r) (record { answer = Err ClassFull; waiting = w }) (record { answer = Ok tt; waiting = with_last w c e }))
+          (record { answer = cond (put r).placed (Ok tt) (Err ClassFull); waiting = (put r).waiting })
       go true = refl
       go false = refl
-
-pub pick_untested : (w : Waiting) (m : ℕ) → AllSound w → pick_gives w m ≡ take_due w (due_of w.times w.fills m)
-unfolding pick_gives
-pick_untested w m a = rw a refl

@@ -7,9 +7,9 @@ use native.Mathlib.Omega.{arith}
 use lib.Dec.{ltb}
 use lib.ListN.{length, length-append}
 use borrow.Author.Tests.{ltb-true, ltb-false}
-use Rattle.quantity.specs.Kinds.{ticks}
+use Rattle.std.specs.Prelude.{Some, None}
 use Rattle.places.specs.declared.Entry.{Entry}
-use Rattle.firsts.specs.declared.First.TheVariants.{At, NoEntry}
+use Rattle.firsts.specs.declared.First.{First}
 use Rattle.waiting.specs.Rules.{Each, none, one, After, NotBefore}
 use Rattle.firsts.specs.Firsts.{first_from, first_in}
 
@@ -62,13 +62,13 @@ regroup : (a : List Entry) (e : Entry) (b : List Entry) (z : Entry) (r : List En
 regroup a e b z r = simp append_assoc
 
 -- of those seen, the one behind a is the first; r are those to come
-leads_from : (a : List Entry) (e : Entry) (b r : List Entry) (p n k t : ℕ)
+leads_from : (a : List Entry) (e : Entry) (b r : List Entry) (p n : ℕ) (f : First)
     → Each (After e.time.0) a → Each (NotBefore e.time.0) b → p ≡ length a → n ≡ length (a ++ (e ∷ b))
-    → first_from p e.time.0 n (times_of r) ≡ At k (ticks t) → Leads ((a ++ (e ∷ b)) ++ r) k t
+    → first_from p e.time.0 n (times_of r) ≡ f → Leads ((a ++ (e ∷ b)) ++ r) f.place f.time.0
 unfolding first_from
-leads_from a e b [] p n k t x y i j f =
-    let u : p ≡ k = cc in
-    let v : e.time.0 ≡ t = cc in
+leads_from a e b [] p n f x y i j h =
+    let u : p ≡ f.place = ap (λ (g : First). g.place) h in
+    let v : e.time.0 ≡ f.time.0 = ap (λ (g : First). g.time.0) h in
     record {
       ahead = a;
       entry = e;
@@ -79,40 +79,32 @@ leads_from a e b [] p n k t x y i j f =
       first = rw v at x;
       smallest = rw v at y;
     }
-leads_from a e b (z ∷ r) p n k t x y i j f =
+leads_from a e b (z ∷ r) p n f x y i j h =
     go
-    (λ h g.
-    leads_from (a ++ (e ∷ b)) z [] r n (n + 1) k t
-    (each_join (each_more (λ d l. omega arith) x) (one h (each_more (λ d l. omega arith) y))) none j (grown (a ++ (e ∷ b)) z n j) g)
-    (λ h g.
-    leads_from a e (b ++ (z ∷ [])) r p (n + 1) k t x (each_join y (one h none)) i
+    (λ l g.
+    leads_from (a ++ (e ∷ b)) z [] r n (n + 1) f
+    (each_join (each_more (λ d m. omega arith) x) (one l (each_more (λ d m. omega arith) y))) none j (grown (a ++ (e ∷ b)) z n j) g)
+    (λ l g.
+    leads_from a e (b ++ (z ∷ [])) r p (n + 1) f x (each_join y (one l none)) i
     (grown (a ++ (e ∷ b)) z n j ∙ ap length (append_assoc a (e ∷ b) (z ∷ []))) g)
     (ltb z.time.0 e.time.0)
     refl where
-      go : (z.time.0 < e.time.0 → first_from n z.time.0 (n + 1) (times_of r) ≡ At k (ticks t) → Leads (((a ++ (e ∷ b)) ++ (z ∷ [])) ++ r) k t)
-          → (e.time.0 ≤ z.time.0 → first_from p e.time.0 (n + 1) (times_of r) ≡ At k (ticks t) → Leads ((a ++ (e ∷ (b ++ (z ∷ [])))) ++ r) k t)
-          → (s : Bool) → ltb z.time.0 e.time.0 ≡ s → Leads ((a ++ (e ∷ b)) ++ (z ∷ r)) k t
-      go new old true q = let w = new (ltb-true z.time.0 e.time.0 q) (rw q at f) in rw (append_assoc (a ++ (e ∷ b)) (z ∷ []) r) at w
-      go new old false q = let w = old (ltb-false z.time.0 e.time.0 q) (rw q at f) in rw (regroup a e b z r) at w
-
-never_none : (p t n : ℕ) (l : List ℕ) → first_from p t n l ≡ NoEntry → ⊥
-unfolding first_from
-never_none p t n [] f = let z : ◌≡◌ {A = ℕ} 0 1 = cc in omega arith
-never_none p t n (x ∷ l) f = go (never_none n x (n + 1) l) (never_none p t (n + 1) l) (ltb x t) refl where
-  go : (first_from n x (n + 1) l ≡ NoEntry → ⊥) → (first_from p t (n + 1) l ≡ NoEntry → ⊥) → (s : Bool) → ltb x t ≡ s → ⊥
-  go new old true q = new (rw q at f)
-  go new old false q = old (rw q at f)
+      go : (z.time.0 < e.time.0 → first_from n z.time.0 (n + 1) (times_of r) ≡ f → Leads (((a ++ (e ∷ b)) ++ (z ∷ [])) ++ r) f.place f.time.0)
+          → (e.time.0 ≤ z.time.0 → first_from p e.time.0 (n + 1) (times_of r) ≡ f → Leads ((a ++ (e ∷ (b ++ (z ∷ [])))) ++ r) f.place f.time.0)
+          → (s : Bool) → ltb z.time.0 e.time.0 ≡ s → Leads ((a ++ (e ∷ b)) ++ (z ∷ r)) f.place f.time.0
+      go new old true q = let w = new (ltb-true z.time.0 e.time.0 q) (rw q at h) in rw (append_assoc (a ++ (e ∷ b)) (z ∷ []) r) at w
+      go new old false q = let w = old (ltb-false z.time.0 e.time.0 q) (rw q at h) in rw (regroup a e b z r) at w
 
 -- the first of the smallest times
-pub leads : (q : List Entry) (k t : ℕ) → first_in (times_of q) ≡ At k (ticks t) → Leads q k t
+pub leads : (q : List Entry) (f : First) → first_in (times_of q) ≡ Some f → Leads q f.place f.time.0
 unfolding first_in
-leads [] k t f = let z : ◌≡◌ {A = ℕ} 0 1 = cc in absurd (omega arith)
-leads (e ∷ q) k t f = leads_from [] e [] q 0 1 k t none none refl refl f
+leads [] f h = absurd (cc)
+leads (e ∷ q) f h = leads_from [] e [] q 0 1 f none none refl refl (cc)
 
-pub no_one : (q : List Entry) → first_in (times_of q) ≡ NoEntry → q ≡ []
+pub no_one : (q : List Entry) → first_in (times_of q) ≡ None → q ≡ []
 unfolding first_in
-no_one [] f = refl
-no_one (e ∷ q) f = absurd (never_none 0 e.time.0 1 (times_of q) f)
+no_one [] h = refl
+no_one (e ∷ q) h = absurd (cc)
 
 -- none of them is before what goes first
 pub none_before : {q : List Entry} {k t : ℕ} → Leads q k t → Each (NotBefore t) q

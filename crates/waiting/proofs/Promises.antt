@@ -16,19 +16,16 @@ use Rattle.quantity.specs.declared.Refusal.TheVariants.{Unsound, ClassFull}
 use Rattle.quantity.proofs.Ranges.{at_most}
 use Rattle.places.specs.declared.Waiting.{Waiting}
 use Rattle.places.specs.declared.Entry.{Entry}
-use Rattle.classes.specs.declared.Entered.{Entered}
-use Rattle.classes.specs.declared.Entered.TheVariants.{Done, Refused as NotEntered}
-use Rattle.classes.specs.declared.AfterEnter.{AfterEnter}
+use Rattle.std.specs.Prelude.{None, Ok, Err}
 use Rattle.places.specs.declared.Picked.{Picked}
 use Rattle.places.specs.declared.Picked.TheVariants.{Leaves, Nothing, Refused as NotPicked}
-use Rattle.places.specs.declared.AfterPick.{AfterPick}
-use Rattle.firsts.specs.declared.Smallest.TheVariants.{NothingWaits}
+use Rattle.places.specs.declared.After.{After}
 use Rattle.quantity.specs.declared.Ticks.{Ticks}
 use Rattle.places.specs.Queue.{places, classes, nothing, count_of, entry_at, entries_from, queue, Shaped}
 use Rattle.waiting.specs.Rules.{Each, none, NotBefore, Enters, Picks, NothingEligible, SmallestTime}
 use Rattle.classes.specs.Soundness.{every, entry_sound, class_sound, all_sound}
 use Rattle.places.specs.Places.{with_last, has_room, without}
-use Rattle.classes.specs.Calls.{not_entered, enter_gives, due_of, pick_gives}
+use Rattle.classes.specs.Calls.{Entered, not_entered, enter_gives, due_of, picked_after, pick_gives}
 use Rattle.firsts.specs.Firsts.{smallest_of}
 use Rattle.waiting.specs.Answers.{entered_number, picked_number, picked_values}
 use Rattle.waiting.specs.Promises.{Reached, start, entering, picking, ReachedIsSound, ReachedIsNeverRefused, EnteredIsLast, FullIsThirtyTwo, PickedIsFirst, PickIsFixed, NothingIsNothing, RefusedChangesNothing, SmallestIsSmallest}
@@ -38,18 +35,18 @@ use Rattle.waiting.proofs.Standing.{queue_length, queue_beyond, last_entered, ot
 use Rattle.waiting.proofs.SoundClasses.{Fine, each_class, class_means}
 use Rattle.waiting.proofs.Choosing.{Chosen, chosen, none_chosen, all_after, all_classes_after}
 use Rattle.waiting.proofs.SmallestTimes.{nothing_below, Least, smallest_below_law}
-use Rattle.waiting.proofs.Kept.{lead, first_inside, first_parts, first_time, put_keeps, take_keeps}
+use Rattle.waiting.proofs.Kept.{lead, first_parts, first_time, due_first, due_inside, put_keeps, take_keeps}
 use Rattle.waiting.proofs.Cases.{Refusing, Accepting, enter_ways, NotPicking, Idle, Taking, pick_ways, taken}
 
 -- ---- an answer is known by its number and its values
 
-is_done : (a : Entered) → entered_number a ≡ 0 → a ≡ Done
-is_done Done h = refl
-is_done (NotEntered why) h = absurd (omega (arith, h, (refusal_number why).0))
+is_done : (a : Entered) → entered_number a ≡ 0 → a ≡ Ok tt
+is_done (Ok done) h = refl
+is_done (Err why) h = absurd (omega (arith, h, (refusal_number why).0))
 
-is_not_entered : (x : Refusal) (a : Entered) → entered_number a ≡ number_of x → a ≡ NotEntered x
-is_not_entered x Done h = absurd (omega (arith, h, (refusal_number x).0))
-is_not_entered x (NotEntered why) h = ap (λ (y : Refusal). NotEntered y) (same_refusal why x h)
+is_not_entered : (x : Refusal) (a : Entered) → entered_number a ≡ number_of x → a ≡ Err x
+is_not_entered x (Ok done) h = absurd (omega (arith, h, (refusal_number x).0))
+is_not_entered x (Err why) h = ap (λ (y : Refusal). Err y) (same_refusal why x h)
 
 is_nothing : (a : Picked) → picked_number a ≡ picked_number Nothing → a ≡ Nothing
 is_nothing (Leaves c e) h = absurd (omega (arith, h))
@@ -88,13 +85,13 @@ module _ (w : Waiting) (c : ℕ) (e : Entry) (a : Accepting w c e) where
   enters s = record { last = last_entered w c e s in-class has_room_law; others = others_stay w c e s in-class has_room_law }
 
 -- the answer of entering and what it leaves
-abbrev answer_of : AfterEnter → Entered
+abbrev answer_of : After Entered → Entered
 answer_of x = x.answer
 
-abbrev left_by : AfterEnter → Waiting
+abbrev left_by : After Entered → Waiting
 left_by x = x.waiting
 
-refused_is : (w : Waiting) (c : ℕ) (e : Entry) (r : Refusing w c e) → (enter_gives w c e).answer ≡ NotEntered r.why
+refused_is : (w : Waiting) (c : ℕ) (e : Entry) (r : Refusing w c e) → (enter_gives w c e).answer ≡ Err r.why
 unfolding not_entered
 refused_is w c e r = ap answer_of r.gives
 
@@ -103,7 +100,7 @@ unfolding not_entered
 refused_left w c e r = ap left_by r.gives
 
 -- by the answer itself
-pub enters_last : (w : Waiting) (c : ℕ) (e : Entry) → Shaped w → (enter_gives w c e).answer ≡ Done → Enters w (enter_gives w c e).waiting c e
+pub enters_last : (w : Waiting) (c : ℕ) (e : Entry) → Shaped w → (enter_gives w c e).answer ≡ Ok tt → Enters w (enter_gives w c e).waiting c e
 enters_last w c e s h = ⊎_elim (λ r. absurd (no r)) (λ a. yes a) (enter_ways w c e) where
   no : Refusing w c e → ⊥
   no r = let g = refused_is w c e r in let z : ◌≡◌ {A = ℕ} 0 1 = cc in omega arith
@@ -115,10 +112,10 @@ pub entered_is_last : EnteredIsLast
 entered_is_last w c e s h = enters_last w c e s (is_done (enter_gives w c e).answer h)
 
 full_answers : (w : Waiting) (c : ℕ) (e : Entry) →
-    ((enter_gives w c e).answer ≡ NotEntered ClassFull → length (queue w c) ≡ places) × ((enter_gives w c e).answer ≡ Done → length (queue w c) < places)
+    ((enter_gives w c e).answer ≡ Err ClassFull → length (queue w c) ≡ places) × ((enter_gives w c e).answer ≡ Ok tt → length (queue w c) < places)
 unfolding has_room
 full_answers w c e = (λ h. ⊎_elim (λ r. full h r) (λ a. absurd (not_full h a)) (enter_ways w c e), λ h. ⊎_elim (λ r. absurd (not_done h r)) (λ a. done a) (enter_ways w c e)) where
-  full : (enter_gives w c e).answer ≡ NotEntered ClassFull → Refusing w c e → length (queue w c) ≡ places
+  full : (enter_gives w c e).answer ≡ Err ClassFull → Refusing w c e → length (queue w c) ≡ places
   full h r =
       let g = refused_is w c e r in
       let y : r.why ≡ ClassFull = cc in
@@ -129,10 +126,10 @@ full_answers w c e = (λ h. ⊎_elim (λ r. full h r) (λ a. absurd (not_full h 
       let n = count_is w.fills c i m in
       queue_length w c ∙ omega arith
 
-  not_full : (enter_gives w c e).answer ≡ NotEntered ClassFull → Accepting w c e → ⊥
-  not_full h a = let g : (enter_gives w c e).answer ≡ Done = ap answer_of a.gives in let z : ◌≡◌ {A = ℕ} 0 1 = cc in omega arith
+  not_full : (enter_gives w c e).answer ≡ Err ClassFull → Accepting w c e → ⊥
+  not_full h a = let g : (enter_gives w c e).answer ≡ Ok tt = ap answer_of a.gives in let z : ◌≡◌ {A = ℕ} 0 1 = cc in omega arith
 
-  not_done : (enter_gives w c e).answer ≡ Done → Refusing w c e → ⊥
+  not_done : (enter_gives w c e).answer ≡ Ok tt → Refusing w c e → ⊥
   not_done h r = let g = refused_is w c e r in let z : ◌≡◌ {A = ℕ} 0 1 = cc in omega arith
 
   done : Accepting w c e → length (queue w c) < places
@@ -142,35 +139,36 @@ full_answers w c e = (λ h. ⊎_elim (λ r. full h r) (λ a. absurd (not_full h 
       omega (arith, queue_length w c)
 
 -- ---- the entry that is picked
-abbrev answered : AfterPick → Picked
+abbrev answered : After Picked → Picked
 answered x = x.answer
 
-abbrev remains : AfterPick → Waiting
+abbrev remains : After Picked → Waiting
 remains x = x.waiting
 
 module _ (w : Waiting) (m : ℕ) (t : Taking w m) where
   abbrev c : ℕ
-  c = t.class
+  c = t.chosen.class
 
   abbrev k : ℕ
-  k = t.place
+  k = t.chosen.place
 
-  choice : Chosen w.times w.fills m classes c k
+  choice : Chosen w.times w.fills m classes t.chosen
   unfolding due_of
-  choice = chosen w.times w.fills m classes c k t.due
+  choice = chosen w.times w.fills m classes t.chosen t.due
 
   inside : k < count_of w.fills c
-  inside = first_inside w c k choice.time choice.first
+  inside = due_inside w m classes t.chosen choice
 
   gives : pick_gives w m ≡ record { answer = Leaves c (entry_at w (c * places + k)); waiting = without w c k }
-  gives = t.gives ∙ taken w c k inside
+  gives = t.gives ∙ ap (picked_after c) (taken w c k inside)
 
   picks : Shaped w → Picks w (without w c k) m c (entry_at w (c * places + k))
   picks s =
       let x = choice in
-      let l = lead w c k x.time x.first in
-      let a = first_parts w c k x.time x.first s in
-      let e = first_time w c k x.time x.first s in
+      let f = due_first w m classes t.chosen x in
+      let l = lead w c _ f in
+      let a = first_parts w c _ f s in
+      let e = first_time w c _ f s in
       record {
         ahead = entries_from w (c * places) k;
         behind = entries_from w ((c * places + k) + 1) (get_or w.fills c 0 - (k + 1));
@@ -193,9 +191,9 @@ picks_first w m c e s h = ⊎_elim (λ r. absurd (no r)) (λ q. ⊎_elim (λ i. 
 
   yes : Taking w m → Picks w (pick_gives w m).waiting m c e
   yes t =
-      let g : (pick_gives w m).answer ≡ Leaves t.class (entry_at w (t.class * places + t.place)) = ap answered (gives w m t) in
-      let x : t.class ≡ c = cc in
-      let y : entry_at w (t.class * places + t.place) ≡ e = cc in
+      let g : (pick_gives w m).answer ≡ Leaves t.chosen.class (entry_at w (t.chosen.class * places + t.chosen.place)) = ap answered (gives w m t) in
+      let x : t.chosen.class ≡ c = cc in
+      let y : entry_at w (t.chosen.class * places + t.chosen.place) ≡ e = cc in
       rw (ap remains (gives w m t), sym y, sym x) (picks w m t s)
 
 pub picked_is_first : PickedIsFirst
@@ -209,7 +207,7 @@ picks_nothing w m h = ⊎_elim (λ r. absurd (no r)) (λ q. ⊎_elim (λ i. yes 
 
   taking : Taking w m → ⊥
   taking t =
-      let g : (pick_gives w m).answer ≡ Leaves t.class (entry_at w (t.class * places + t.place)) = ap answered (gives w m t) in
+      let g : (pick_gives w m).answer ≡ Leaves t.chosen.class (entry_at w (t.chosen.class * places + t.chosen.place)) = ap answered (gives w m t) in
       let z : ◌≡◌ {A = ℕ} 0 1 = cc in
       omega arith
 
@@ -257,7 +255,7 @@ pick_is_fixed w v v' m c c' e e' p p' = (same, (parts.1.0, λ d. go d (eqb d c) 
 pub refused_changes_nothing : RefusedChangesNothing
 refused_changes_nothing w = (λ c e h. ⊎_elim (λ r. refused_left w c e r) (λ a. absurd (accepted c e h a)) (enter_ways w c e), λ m h. ⊎_elim (λ r. refused m r) (λ q. ⊎_elim (λ i. absurd (idle m h i)) (λ t. absurd (taking m h t)) q) (pick_ways w m)) where
   accepted : (c : ℕ) (e : Entry) → least_refusal ≤ entered_number (enter_gives w c e).answer → Accepting w c e → ⊥
-  accepted c e h a = let g : (enter_gives w c e).answer ≡ Done = ap answer_of a.gives in let z : entered_number (enter_gives w c e).answer ≡ 0 = ap entered_number g in omega arith
+  accepted c e h a = let g : (enter_gives w c e).answer ≡ Ok tt = ap answer_of a.gives in let z : entered_number (enter_gives w c e).answer ≡ 0 = ap entered_number g in omega arith
 
   refused : (m : ℕ) → NotPicking w m → ((pick_gives w m).waiting ≡ w) × (picked_values (pick_gives w m).answer ≡ [])
   refused m r = (ap remains r.gives, ap picked_values (ap answered r.gives))
@@ -279,8 +277,8 @@ good_entered w c e g = ⊎_elim (λ r. rw (refused_left w c e r) g) (λ a. rw (a
 
 good_picked : (w : Waiting) (m : ℕ) → Good w → Good (pick_gives w m).waiting
 good_picked w m g = ⊎_elim (λ r. rw (ap remains r.gives) g) (λ q. ⊎_elim (λ i. rw (ap remains i.gives) g) (λ t. rw (ap remains (gives w m t)) (yes t)) q) (pick_ways w m) where
-  yes : (t : Taking w m) → Good (without w t.class t.place)
-  yes t = take_keeps w t.class t.place g.0 (inside w m t) g.1
+  yes : (t : Taking w m) → Good (without w t.chosen.class t.chosen.place)
+  yes t = take_keeps w t.chosen.class t.chosen.place g.0 (inside w m t) g.1
 
 pub reached_is_sound : ReachedIsSound
 unfolding nothing all_sound every class_sound
@@ -289,12 +287,12 @@ reached_is_sound _ (entering {w} r c e) = good_entered w c e (reached_is_sound w
 reached_is_sound _ (picking {w} r m) = good_picked w m (reached_is_sound w r)
 
 never_refused : (w : Waiting) → Reached w →
-    ((c : ℕ) (e : Entry) → (enter_gives w c e).answer ≡ NotEntered Unsound → ⊥) × ((m : ℕ) → (pick_gives w m).answer ≡ NotPicked Unsound → ⊥)
+    ((c : ℕ) (e : Entry) → (enter_gives w c e).answer ≡ Err Unsound → ⊥) × ((m : ℕ) → (pick_gives w m).answer ≡ NotPicked Unsound → ⊥)
 never_refused w r = (λ c e h. ⊎_elim (λ x. enter c e h x) (λ a. accepted c e h a) (enter_ways w c e), λ m h. ⊎_elim (λ x. pick m x) (λ q. ⊎_elim (λ i. idle m h i) (λ t. taking m h t) q) (pick_ways w m)) where
   sound : all_sound w.times w.bits w.fills ≡ true
   sound = (reached_is_sound w r).1
 
-  enter : (c : ℕ) (e : Entry) → (enter_gives w c e).answer ≡ NotEntered Unsound → Refusing w c e → ⊥
+  enter : (c : ℕ) (e : Entry) → (enter_gives w c e).answer ≡ Err Unsound → Refusing w c e → ⊥
   enter c e h x =
       let g = refused_is w c e x in
       let y : x.why ≡ Unsound = cc in
@@ -304,8 +302,8 @@ never_refused w r = (λ c e h. ⊎_elim (λ x. enter c e h x) (λ a. accepted c 
       let z : ◌≡◌ {A = ℕ} 0 1 = cc in
       omega arith
 
-  accepted : (c : ℕ) (e : Entry) → (enter_gives w c e).answer ≡ NotEntered Unsound → Accepting w c e → ⊥
-  accepted c e h a = let g : (enter_gives w c e).answer ≡ Done = ap answer_of a.gives in let z : ◌≡◌ {A = ℕ} 0 1 = cc in omega arith
+  accepted : (c : ℕ) (e : Entry) → (enter_gives w c e).answer ≡ Err Unsound → Accepting w c e → ⊥
+  accepted c e h a = let g : (enter_gives w c e).answer ≡ Ok tt = ap answer_of a.gives in let z : ◌≡◌ {A = ℕ} 0 1 = cc in omega arith
 
   pick : (m : ℕ) → NotPicking w m → ⊥
   pick m x = let s = sound in let n = x.sound in let z : ◌≡◌ {A = ℕ} 0 1 = cc in omega arith
@@ -315,7 +313,7 @@ never_refused w r = (λ c e h. ⊎_elim (λ x. enter c e h x) (λ a. accepted c 
 
   taking : (m : ℕ) → (pick_gives w m).answer ≡ NotPicked Unsound → Taking w m → ⊥
   taking m h t =
-      let g : (pick_gives w m).answer ≡ Leaves t.class (entry_at w (t.class * places + t.place)) = ap answered (gives w m t) in
+      let g : (pick_gives w m).answer ≡ Leaves t.chosen.class (entry_at w (t.chosen.class * places + t.chosen.place)) = ap answered (gives w m t) in
       let z : ◌≡◌ {A = ℕ} 0 1 = cc in
       omega arith
 
@@ -340,6 +338,6 @@ smallest_is_smallest w = (λ t h. time t (smallest_below_law w classes t h), λ 
     go d true q = l.smallest d (ltb-true d classes q)
     go d false q = let z = ltb-false d classes q in rw (queue_beyond w d (omega arith)) none
 
-  empty : smallest_of w.times w.fills ≡ NothingWaits → (c : ℕ) (x : Bool) → ltb c classes ≡ x → queue w c ≡ []
+  empty : smallest_of w.times w.fills ≡ None → (c : ℕ) (x : Bool) → ltb c classes ≡ x → queue w c ≡ []
   empty h c true q = nothing_below w classes h c (ltb-true c classes q)
   empty h c false q = let z = ltb-false c classes q in queue_beyond w c (omega arith)

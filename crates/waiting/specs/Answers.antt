@@ -1,16 +1,15 @@
 -- Document 01, 'Numbers returned': the number of each answer, and the values that come with it.
 -- c is a class, e an entry.
-use Rattle.std.specs.Prelude.{ℕ, List, [], ◌∷◌}
+use Rattle.std.specs.Prelude.{ℕ, Ok, Err, List, [], ◌∷◌}
 use Rattle.quantity.specs.Numbers.{number_of}
-use Rattle.classes.specs.declared.Entered.{Entered}
-use Rattle.classes.specs.declared.Entered.TheVariants.{Done, Refused as NotEntered}
+use Rattle.classes.specs.Calls.{Entered}
 use Rattle.places.specs.declared.Picked.{Picked}
 use Rattle.places.specs.declared.Picked.TheVariants.{Leaves, Nothing, Refused as NotPicked}
 
 -- the number that entering answers; no value comes with it
 abbrev pub entered_number : Entered → ℕ
-entered_number Done = 0
-entered_number (NotEntered why) = number_of why
+entered_number (Ok done) = 0
+entered_number (Err why) = number_of why
 
 -- the number that a pick answers
 abbrev pub picked_number : Picked → ℕ

@@ -1,12 +1,11 @@
 -- Document 01, 'Waiting and picking' and 'Numbers returned': what is promised of the calls. proofs/Promises.antt proves each statement under its name.
 -- w is the waiting places before a call; c is a class, e an entry, m a moment.
-use Rattle.std.specs.Prelude.{ℕ, ◌≤◌, ◌<◌, ◌≡◌, true, [], length}
+use Rattle.std.specs.Prelude.{ℕ, ◌≤◌, ◌<◌, ◌≡◌, true, Some, None, [], length}
 use Rattle.quantity.specs.Numbers.{least_refusal, number_of}
 use Rattle.quantity.specs.declared.Refusal.TheVariants.{ClassFull, Unsound}
 use Rattle.places.specs.declared.Waiting.{Waiting}
 use Rattle.places.specs.declared.Entry.{Entry}
 use Rattle.places.specs.declared.Picked.TheVariants.{Leaves, Nothing}
-use Rattle.firsts.specs.declared.Smallest.TheVariants.{Time, NothingWaits}
 use Rattle.quantity.specs.declared.Ticks.{Ticks}
 use Rattle.places.specs.Queue.{places, nothing, queue, Shaped}
 use Rattle.waiting.specs.Rules.{Enters, Picks, NothingEligible, SmallestTime}
@@ -68,5 +67,5 @@ RefusedChangesNothing =
 abbrev pub SmallestIsSmallest : Type 0
 SmallestIsSmallest =
     (w : Waiting) →
-    ((t : Ticks) → smallest_of w.times w.fills ≡ Time t → SmallestTime w t.0)
-    × (smallest_of w.times w.fills ≡ NothingWaits → (c : ℕ) → queue w c ≡ [])
+    ((t : Ticks) → smallest_of w.times w.fills ≡ Some t → SmallestTime w t.0)
+    × (smallest_of w.times w.fills ≡ None → (c : ℕ) → queue w c ≡ [])

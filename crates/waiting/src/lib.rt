@@ -6,9 +6,8 @@ ghost use Rattle.std.specs.Prelude.{◌≡◌};
 ghost use Rattle.places.specs.Queue.{nothing};
 ghost use Rattle.classes.specs.Calls.{enter_gives, pick_gives};
 
-use classes::AfterEnter;
-use places::{AfterPick, Entry, Waiting};
-use quantity::Ticks;
+use places::{After, Entry, Picked, Waiting};
+use quantity::{Refusal, Ticks};
 
 // The places at the start: nothing waits.
 pub fn empty() -> Waiting
@@ -23,50 +22,17 @@ pub fn empty() -> Waiting
 }
 
 // Enters an entry into a class.
-pub fn enter(waiting: Waiting, class: u8, entry: Entry) -> AfterEnter
+pub fn enter(mut waiting: Waiting, class: u8, entry: Entry) -> After<Result<(), Refusal>>
     ensures { result ≡ enter_gives waiting class entry }
 {
-    let mut times = waiting.times;
-    let mut handles = waiting.handles;
-    let mut bits = waiting.bits;
-    let mut fills = waiting.fills;
-    let answer = classes::enter_in_place(
-        &mut times,
-        &mut handles,
-        &mut bits,
-        &mut fills,
-        class,
-        entry,
-    );
-    let entered = Waiting {
-        times,
-        handles,
-        bits,
-        fills,
-    };
-    AfterEnter {
-        answer,
-        waiting: entered,
-    }
+    let answer = classes::enter_in_place(&mut waiting, class, entry);
+    After { answer, waiting }
 }
 
 // Picks at a moment.
-pub fn pick(waiting: Waiting, moment: Ticks) -> AfterPick
+pub fn pick(mut waiting: Waiting, moment: Ticks) -> After<Picked>
     ensures { result ≡ pick_gives waiting moment.0 }
 {
-    let mut times = waiting.times;
-    let mut handles = waiting.handles;
-    let mut bits = waiting.bits;
-    let mut fills = waiting.fills;
-    let answer = classes::pick_in_place(&mut times, &mut handles, &mut bits, &mut fills, moment);
-    let picked = Waiting {
-        times,
-        handles,
-        bits,
-        fills,
-    };
-    AfterPick {
-        answer,
-        waiting: picked,
-    }
+    let answer = classes::pick_in_place(&mut waiting, moment);
+    After { answer, waiting }
 }

@@ -6,11 +6,11 @@ use Rattle.classes.proofs.all_sound.Goals as goal
 
 pub returns-then-not-class_sound : goal.returns-then-not-class_sound
 returns-then-not-class_sound c =
-    class_bad _ _ _ _ c.loop-class.invariant.0 (omega arith) (sym c.class_sound.ensures ∙ c.if-not-class_sound.true)
+    class_bad _ _ _ _ c.loop-class.invariant (omega arith) (sym c.class_sound.ensures ∙ c.if-not-class_sound.true)
 
 pub loop-class-preserved : goal.loop-class-preserved
 loop-class-preserved c =
-    (every_goes _ _ _ (omega arith) (sym c.class_sound.ensures ∙ c.if-not-class_sound.false) ∙ c.loop-class.invariant.0, omega arith)
+    every_goes _ _ _ (omega arith) (sym c.class_sound.ensures ∙ c.if-not-class_sound.false) ∙ c.loop-class.invariant
 
 pub returns : goal.returns
-returns c = classes_good _ _ _ _ c.loop-class.invariant.0 (omega arith)
+returns c = classes_good _ _ _ _ c.loop-class.invariant (omega arith)

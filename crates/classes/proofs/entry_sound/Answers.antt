@@ -3,8 +3,8 @@ use mathlib.Core.Path.{sym, ◌∙◌}
 use Rattle.classes.proofs.Scans.{charge_out, charge_in}
 use Rattle.classes.proofs.entry_sound.Goals as goal
 
-pub returns-then-not-in_range : goal.returns-then-not-in_range
-returns-then-not-in_range c = charge_out _ _ (sym c.in_range.ensures ∙ c.if-not-in_range.true)
+pub returns-then-in_range : goal.returns-then-in_range
+returns-then-in_range c = c.in_range-then-in_range.ensures ∙ charge_in _ _ (sym c.in_range.ensures ∙ c.if-in_range.true)
 
-pub returns : goal.returns
-returns c = c.in_range-2.ensures ∙ charge_in _ _ (sym c.in_range.ensures ∙ c.if-not-in_range.false)
+pub returns-else-in_range : goal.returns-else-in_range
+returns-else-in_range c = c.if-in_range.false ∙ charge_out _ _ (sym c.in_range.ensures ∙ c.if-in_range.false)

@@ -1,28 +1,36 @@
 -- `classes::highest_due` meets its contract: the classes not yet looked at give what all give. Assumes nothing.
-use mathlib.Core.Path.{refl, ◌∙◌}
+use mathlib.Core.Path.{◌≡◌, refl, ◌∙◌}
 use native.Mathlib.Omega.{arith}
 use Rattle.classes.specs.Calls.{due_of}
 use Rattle.classes.proofs.Dues.{due_here, due_later, due_none, none_due}
 use Rattle.classes.proofs.highest_due.Goals as goal
+use Rattle.classes.proofs.highest_due.Goals.{in-Some+else-first-moment, in_default}
+use Prim.Native.Nat.{◌+◌, ◌-◌}
 
-pub loop-above-init : goal.loop-above-init
+pub loop-class-init : goal.loop-class-init
 unfolding due_of
-loop-above-init c = (refl, omega arith)
+loop-class-init c = refl
 
-pub returns-then-time-moment : goal.returns-then-time-moment
-returns-then-time-moment c =
-    due_here _ _ _ _ c.loop-above-test.true _ c.first_least.ensures _ _ c.in-At.is c.if-time-moment.true ∙ c.loop-above.invariant.0
+pub returns-then-first-moment : goal.returns-then-first-moment
+returns-then-first-moment c =
+    due_here _ _ _ _ _ c.first_least.ensures _ c.in-Some.is c.if-first-moment.true ∙ c.loop-class.invariant
 
-pub loop-above-preserved : goal.loop-above-preserved
-loop-above-preserved c =
-    let h = c.loop-above-test.true in
-    let v = c.loop-above.invariant in (
-      elim c.match-first_least.branch [
-        | goal.in-At+else-time-moment w ↦ due_later _ _ _ _ h _ c.first_least.ensures _ _ w.in-At.is w.if-time-moment.false
-        | goal.in_default w ↦ due_none _ _ _ _ h _ c.first_least.ensures w.in_default.is
-      ] ∙ v.0,
-      omega arith,
+pub loop-class-preserved : goal.loop-class-preserved
+loop-class-preserved c =
+    let lower : (c.loop-class.class - 1) + 1 ≡ c.loop-class.class = omega arith in
+    rw lower (
+    elim c.match-first_least.branch [
+      | in-Some+else-first-moment w ↦ due_later _ _ _ _ _ c.first_least.ensures _ w.in-Some.is w.if-first-moment.false
+      | in_default w ↦ due_none _ _ _ _ _ c.first_least.ensures w.in_default.is
+    ] ∙ c.loop-class.invariant
     )
 
+pub returns-after-first_least : goal.returns-after-first_least
+returns-after-first_least c =
+    none_due _ _ _ _ (omega arith) ∙ elim c.match-first_least.branch [
+      | in-Some+else-first-moment w ↦ due_later _ _ _ _ _ c.first_least.ensures _ w.in-Some.is w.if-first-moment.false
+      | in_default w ↦ due_none _ _ _ _ _ c.first_least.ensures w.in_default.is
+    ] ∙ c.loop-class.invariant
+
 pub returns : goal.returns
-returns c = none_due _ _ _ _ c.loop-above-test.false ∙ c.loop-above.invariant.0
+returns c = absurd (omega (arith, c.loop-class-test.false))

@@ -3,13 +3,13 @@ use Rattle.event.proofs.Steps.{nothing_arrives, nothing_left, arrives_first, pic
 use Rattle.event.proofs.next_step.Goals as goal
 
 pub returns-then-next-arrivals : goal.returns-then-next-arrivals
-returns-then-next-arrivals c = nothing_arrives _ _ _ _ _ _ _ _ _ c.in-NothingWaits.is c.if-next-arrivals.true c.arrival_step.ensures
+returns-then-next-arrivals c = nothing_arrives _ _ _ _ _ _ _ _ _ c.in-None.is c.if-next-arrivals.true c.arrival_step.ensures
 
 pub returns-then-arrives : goal.returns-then-arrives
-returns-then-arrives c = arrives_first _ _ _ _ _ _ _ _ _ _ c.in-Time.is _ c.later-moment.ensures _ c.arrives.ensures c.if-arrives.true c.arrival_step-then-arrives.ensures
+returns-then-arrives c = arrives_first _ _ _ _ _ _ _ _ _ _ c.in-Some.is _ c.max-moment.ensures _ c.arrives.ensures c.if-arrives.true c.arrival_step-then-arrives.ensures
 
 pub returns-else-next-arrivals : goal.returns-else-next-arrivals
-returns-else-next-arrivals c = nothing_left _ _ _ _ _ _ _ _ c.in-NothingWaits.is c.if-next-arrivals.false
+returns-else-next-arrivals c = nothing_left _ _ _ _ _ _ _ _ c.in-None.is c.if-next-arrivals.false
 
 pub returns-else-arrives : goal.returns-else-arrives
-returns-else-arrives c = picks_first _ _ _ _ _ _ _ _ _ _ c.in-Time.is _ c.later-moment.ensures _ c.arrives.ensures c.if-arrives.false c.pick_step.ensures
+returns-else-arrives c = picks_first _ _ _ _ _ _ _ _ _ _ c.in-Some.is _ c.max-moment.ensures _ c.arrives.ensures c.if-arrives.false c.pick_step.ensures

@@ -1,193 +1,104 @@
 -- `line::run_events` meets its contract: each turn of the loop is an event of the definition. Assumes nothing.
-use mathlib.Core.Path.{refl}
+use mathlib.Core.Path.{refl, ap, ◌∙◌}
 use Prim.Native.Nat.{◌-◌, ◌≤◌, ◌<◌}
 use native.Mathlib.Omega.{arith}
 use lib.ListN.{length}
 use Rattle.quantity.specs.declared.Item.TheVariants.{PickMoment}
 use Rattle.quantity.proofs.Ranges.{at_most}
-use Rattle.places.specs.Queue.{lists}
 use Rattle.event.proofs.Steps.{Picks}
-use Rattle.line.specs.Run.{stopped, begun}
-use Rattle.line.proofs.Settling.{stream_found, group_found}
-use Rattle.line.proofs.Turns.{starts, fits_open, Turn, turn, turn_ends, arrival_within, may_settle, turn_arrives, pick_within, pick_due, turn_picks}
+use Rattle.places.specs.declared.Waiting.{Waiting}
+use Rattle.line.specs.Run.{stopped, begun, run_for}
+use Rattle.line.proofs.Turns.{starts, fits_open, turn, turn_ends, arrival_within, may_settle, turn_arrives, pick_within, some_leaves, leaves_light, turn_picks}
 use Rattle.line.proofs.run_events.Goals as goal
+use Rattle.line.proofs.run_events.Goals.{In-Arrival, In-Pick}
+
+-- what an arrival as the next step says
+arrival : (c : In-Arrival) → (1 ≤ c.args.budget - c.loop-stop.events) × (c.loop-stop.next < length c.args.arrivals.now)
+arrival c = arrival_within (turn _ _ _ _ c.loop-stop.invariant _ c.soonest.ensures _ c.next_step-step.ensures) c.in-Arrival.is
+
+-- what a pick as the next step says
+picking : (c : In-Pick) → Picks (c.args.budget - c.loop-stop.events) c.loop-stop.picks (length c.loop-stop.picked) (length c.loop-stop.moments) c.in-Pick.moment.0
+picking c = pick_within (turn _ _ _ _ c.loop-stop.invariant _ c.soonest.ensures _ c.next_step-step.ensures) _ c.in-Pick.is
 
 pub loop-stop-init : goal.loop-stop-init
-loop-stop-init c =
-    let w = c.well_formed.1.0.1.1 in
-    starts _ _ _ _ _ refl (fits_open _ _ c.requires.0 c.requires.1.0) (record { shaped = record { times = w.0.1.0.1; handles = w.1.0.1.0.1; bits = w.1.1.0.1.0.1; fills = w.1.1.1.0.1.0.1 }; sound = c.requires.1.1; noted = c.note_all.ensures })
+loop-stop-init c = starts _ _ _ refl (fits_open _ _ c.requires.0 c.requires.1.0)
 
 pub returns-in-Ends : goal.returns-in-Ends
 unfolding stopped begun
 returns-in-Ends c =
-    let here : let l = c.loop-stop in let a = c.args in Turn (record { arrivals = a.arrivals.now; ids = a.ids.now; octets = a.octets.now; rate = a.rate.0 }) a.budget (record { bridge = a.bridge; waiting = a.waiting; next = a.start; free = a.free.0; events = 0; picks = 0; answers = a.answers.now; picked = a.picked.now; moments = a.moments.now }) (record { bridge = record { groups = l.groups; streams = l.streams }; waiting = lists l.times l.handles l.bits l.fills; next = l.next; free = l.free_at; events = l.events; picks = l.picks; answers = l.answers; picked = l.picked; moments = l.moments }) l.firsts l.places c.next_step-step.result = turn _ _ _ _ _ _ c.loop-stop.invariant _ c.soonest.ensures _ c.next_step-step.ensures in
-    turn_ends here _ c.in-Ends.is
+    turn_ends (turn _ _ _ _ c.loop-stop.invariant _ c.soonest.ensures _ c.next_step-step.ensures) _ c.in-Ends.is
+    ∙ ap (λ (w : Waiting). let a = c.args in run_for (record { arrivals = a.arrivals.now; ids = a.ids.now; octets = a.octets.now; rate = a.rate.0 }) a.budget (begun a.bridge w a.start a.free.0 a.answers.now a.picked.now a.moments.now)) c.new-queues.ensures
 
 pub bounds-ids-next : goal.bounds-ids-next
-bounds-ids-next c =
-    let here : let l = c.loop-stop in let a = c.args in Turn (record { arrivals = a.arrivals.now; ids = a.ids.now; octets = a.octets.now; rate = a.rate.0 }) a.budget (record { bridge = a.bridge; waiting = a.waiting; next = a.start; free = a.free.0; events = 0; picks = 0; answers = a.answers.now; picked = a.picked.now; moments = a.moments.now }) (record { bridge = record { groups = l.groups; streams = l.streams }; waiting = lists l.times l.handles l.bits l.fills; next = l.next; free = l.free_at; events = l.events; picks = l.picks; answers = l.answers; picked = l.picked; moments = l.moments }) l.firsts l.places c.next_step-step.result = turn _ _ _ _ _ _ c.loop-stop.invariant _ c.soonest.ensures _ c.next_step-step.ensures in
-    let arrival_found : let l = c.loop-stop in let a = c.args in (1 ≤ a.budget - l.events) × (l.next < length a.arrivals.now) = arrival_within here c.in-Arrival.is in
-    omega (arith, arrival_found.1, c.loop-stop.invariant.ids)
-
-pub offset_bounds-streams-at : goal.offset_bounds-streams-at
-offset_bounds-streams-at c =
-    let at_stream : c.place_of-at.result < 64 = stream_found _ _ c.place_of-at.ensures.place in
-    omega (arith, at_stream)
-
-pub bounds-streams-at : goal.bounds-streams-at
-bounds-streams-at c =
-    let at_stream : c.place_of-at.result < 64 = stream_found _ _ c.place_of-at.ensures.place in
-    at_stream
-
-pub offset_bounds-groups-of : goal.offset_bounds-groups-of
-offset_bounds-groups-of c =
-    let of_group : c.place_of-of.result < 16 = group_found _ _ c.place_of-of.ensures.place in
-    omega (arith, of_group)
-
-pub bounds-groups-of : goal.bounds-groups-of
-bounds-groups-of c =
-    let of_group : c.place_of-of.result < 16 = group_found _ _ c.place_of-of.ensures.place in
-    of_group
+bounds-ids-next c = let h = arrival (goal.at.bounds-ids-next c).In-Arrival in omega (arith, h.1, c.loop-stop.invariant.ids)
 
 pub offset_bounds-octets-next : goal.offset_bounds-octets-next
-offset_bounds-octets-next c =
-    let here : let l = c.loop-stop in let a = c.args in Turn (record { arrivals = a.arrivals.now; ids = a.ids.now; octets = a.octets.now; rate = a.rate.0 }) a.budget (record { bridge = a.bridge; waiting = a.waiting; next = a.start; free = a.free.0; events = 0; picks = 0; answers = a.answers.now; picked = a.picked.now; moments = a.moments.now }) (record { bridge = record { groups = l.groups; streams = l.streams }; waiting = lists l.times l.handles l.bits l.fills; next = l.next; free = l.free_at; events = l.events; picks = l.picks; answers = l.answers; picked = l.picked; moments = l.moments }) l.firsts l.places c.next_step-step.result = turn _ _ _ _ _ _ c.loop-stop.invariant _ c.soonest.ensures _ c.next_step-step.ensures in
-    let arrival_found : let l = c.loop-stop in let a = c.args in (1 ≤ a.budget - l.events) × (l.next < length a.arrivals.now) = arrival_within here c.in-Arrival.is in
-    omega (arith, arrival_found.1, c.loop-stop.invariant.many)
+offset_bounds-octets-next c = let h = arrival (goal.at.offset_bounds-octets-next c).In-Arrival in omega (arith, h.1, c.loop-stop.invariant.many)
 
 pub bounds-octets-next : goal.bounds-octets-next
-bounds-octets-next c =
-    let here : let l = c.loop-stop in let a = c.args in Turn (record { arrivals = a.arrivals.now; ids = a.ids.now; octets = a.octets.now; rate = a.rate.0 }) a.budget (record { bridge = a.bridge; waiting = a.waiting; next = a.start; free = a.free.0; events = 0; picks = 0; answers = a.answers.now; picked = a.picked.now; moments = a.moments.now }) (record { bridge = record { groups = l.groups; streams = l.streams }; waiting = lists l.times l.handles l.bits l.fills; next = l.next; free = l.free_at; events = l.events; picks = l.picks; answers = l.answers; picked = l.picked; moments = l.moments }) l.firsts l.places c.next_step-step.result = turn _ _ _ _ _ _ c.loop-stop.invariant _ c.soonest.ensures _ c.next_step-step.ensures in
-    let arrival_found : let l = c.loop-stop in let a = c.args in (1 ≤ a.budget - l.events) × (l.next < length a.arrivals.now) = arrival_within here c.in-Arrival.is in
-    omega (arith, arrival_found.1, c.loop-stop.invariant.octets)
+bounds-octets-next c = let h = arrival (goal.at.bounds-octets-next c).In-Arrival in omega (arith, h.1, c.loop-stop.invariant.octets)
 
 pub offset_bounds-arrivals-next : goal.offset_bounds-arrivals-next
-offset_bounds-arrivals-next c =
-    let here : let l = c.loop-stop in let a = c.args in Turn (record { arrivals = a.arrivals.now; ids = a.ids.now; octets = a.octets.now; rate = a.rate.0 }) a.budget (record { bridge = a.bridge; waiting = a.waiting; next = a.start; free = a.free.0; events = 0; picks = 0; answers = a.answers.now; picked = a.picked.now; moments = a.moments.now }) (record { bridge = record { groups = l.groups; streams = l.streams }; waiting = lists l.times l.handles l.bits l.fills; next = l.next; free = l.free_at; events = l.events; picks = l.picks; answers = l.answers; picked = l.picked; moments = l.moments }) l.firsts l.places c.next_step-step.result = turn _ _ _ _ _ _ c.loop-stop.invariant _ c.soonest.ensures _ c.next_step-step.ensures in
-    let arrival_found : let l = c.loop-stop in let a = c.args in (1 ≤ a.budget - l.events) × (l.next < length a.arrivals.now) = arrival_within here c.in-Arrival.is in
-    omega (arith, arrival_found.1, c.loop-stop.invariant.many)
+offset_bounds-arrivals-next c = let h = arrival (goal.at.offset_bounds-arrivals-next c).In-Arrival in omega (arith, h.1, c.loop-stop.invariant.many)
 
 pub bounds-arrivals-next : goal.bounds-arrivals-next
-bounds-arrivals-next c =
-    let here : let l = c.loop-stop in let a = c.args in Turn (record { arrivals = a.arrivals.now; ids = a.ids.now; octets = a.octets.now; rate = a.rate.0 }) a.budget (record { bridge = a.bridge; waiting = a.waiting; next = a.start; free = a.free.0; events = 0; picks = 0; answers = a.answers.now; picked = a.picked.now; moments = a.moments.now }) (record { bridge = record { groups = l.groups; streams = l.streams }; waiting = lists l.times l.handles l.bits l.fills; next = l.next; free = l.free_at; events = l.events; picks = l.picks; answers = l.answers; picked = l.picked; moments = l.moments }) l.firsts l.places c.next_step-step.result = turn _ _ _ _ _ _ c.loop-stop.invariant _ c.soonest.ensures _ c.next_step-step.ensures in
-    let arrival_found : let l = c.loop-stop in let a = c.args in (1 ≤ a.budget - l.events) × (l.next < length a.arrivals.now) = arrival_within here c.in-Arrival.is in
-    omega (arith, arrival_found.1)
-
-pub offset_bounds-streams-at-in-Arrival : goal.offset_bounds-streams-at-in-Arrival
-offset_bounds-streams-at-in-Arrival c =
-    let at_stream : c.place_of-at.result < 64 = stream_found _ _ c.place_of-at.ensures.place in
-    omega (arith, at_stream)
-
-pub bounds-streams-at-in-Arrival : goal.bounds-streams-at-in-Arrival
-bounds-streams-at-in-Arrival c =
-    let at_stream : c.place_of-at.result < 64 = stream_found _ _ c.place_of-at.ensures.place in
-    at_stream
-
-pub offset_bounds-groups-of-in-Arrival : goal.offset_bounds-groups-of-in-Arrival
-offset_bounds-groups-of-in-Arrival c =
-    let of_group : c.place_of-of.result < 16 = group_found _ _ c.place_of-of.ensures.place in
-    omega (arith, of_group)
-
-pub bounds-groups-of-in-Arrival : goal.bounds-groups-of-in-Arrival
-bounds-groups-of-in-Arrival c =
-    let of_group : c.place_of-of.result < 16 = group_found _ _ c.place_of-of.ensures.place in
-    of_group
+bounds-arrivals-next c = let h = arrival (goal.at.bounds-arrivals-next c).In-Arrival in omega (arith, h.1)
 
 pub overflow_cast-next : goal.overflow_cast-next
-overflow_cast-next c =
-    let here : let l = c.loop-stop in let a = c.args in Turn (record { arrivals = a.arrivals.now; ids = a.ids.now; octets = a.octets.now; rate = a.rate.0 }) a.budget (record { bridge = a.bridge; waiting = a.waiting; next = a.start; free = a.free.0; events = 0; picks = 0; answers = a.answers.now; picked = a.picked.now; moments = a.moments.now }) (record { bridge = record { groups = l.groups; streams = l.streams }; waiting = lists l.times l.handles l.bits l.fills; next = l.next; free = l.free_at; events = l.events; picks = l.picks; answers = l.answers; picked = l.picked; moments = l.moments }) l.firsts l.places c.next_step-step.result = turn _ _ _ _ _ _ c.loop-stop.invariant _ c.soonest.ensures _ c.next_step-step.ensures in
-    let arrival_found : let l = c.loop-stop in let a = c.args in (1 ≤ a.budget - l.events) × (l.next < length a.arrivals.now) = arrival_within here c.in-Arrival.is in
-    omega (arith, arrival_found.1, c.loop-stop.invariant.many)
+overflow_cast-next c = let h = arrival (goal.at.overflow_cast-next c).In-Arrival in omega (arith, h.1, c.loop-stop.invariant.many)
 
 pub settle-requires : goal.settle-requires
-settle-requires c =
-    let here : let l = c.loop-stop in let a = c.args in Turn (record { arrivals = a.arrivals.now; ids = a.ids.now; octets = a.octets.now; rate = a.rate.0 }) a.budget (record { bridge = a.bridge; waiting = a.waiting; next = a.start; free = a.free.0; events = 0; picks = 0; answers = a.answers.now; picked = a.picked.now; moments = a.moments.now }) (record { bridge = record { groups = l.groups; streams = l.streams }; waiting = lists l.times l.handles l.bits l.fills; next = l.next; free = l.free_at; events = l.events; picks = l.picks; answers = l.answers; picked = l.picked; moments = l.moments }) l.firsts l.places c.next_step-step.result = turn _ _ _ _ _ _ c.loop-stop.invariant _ c.soonest.ensures _ c.next_step-step.ensures in
-    (c.loop-stop.invariant.keeps, may_settle here c.in-Arrival.is _ _ c.place_of-at.ensures.place c.place_of-of.ensures.place _ c.judge_at-judged.ensures)
+settle-requires c = may_settle (turn _ _ _ _ c.loop-stop.invariant _ c.soonest.ensures _ c.next_step-step.ensures) c.in-Arrival.is _ _ c.place_of-at.ensures.place c.place_of-of.ensures.place _ c.judge_at-judged.ensures
 
 pub bounds-answers-next : goal.bounds-answers-next
-bounds-answers-next c =
-    let here : let l = c.loop-stop in let a = c.args in Turn (record { arrivals = a.arrivals.now; ids = a.ids.now; octets = a.octets.now; rate = a.rate.0 }) a.budget (record { bridge = a.bridge; waiting = a.waiting; next = a.start; free = a.free.0; events = 0; picks = 0; answers = a.answers.now; picked = a.picked.now; moments = a.moments.now }) (record { bridge = record { groups = l.groups; streams = l.streams }; waiting = lists l.times l.handles l.bits l.fills; next = l.next; free = l.free_at; events = l.events; picks = l.picks; answers = l.answers; picked = l.picked; moments = l.moments }) l.firsts l.places c.next_step-step.result = turn _ _ _ _ _ _ c.loop-stop.invariant _ c.soonest.ensures _ c.next_step-step.ensures in
-    let arrival_found : let l = c.loop-stop in let a = c.args in (1 ≤ a.budget - l.events) × (l.next < length a.arrivals.now) = arrival_within here c.in-Arrival.is in
-    omega (arith, arrival_found.1, c.loop-stop.invariant.room)
+bounds-answers-next c = let h = arrival (goal.at.bounds-answers-next c).In-Arrival in omega (arith, h.1, c.loop-stop.invariant.room)
 
 pub overflow_add-next : goal.overflow_add-next
-overflow_add-next c =
-    let here : let l = c.loop-stop in let a = c.args in Turn (record { arrivals = a.arrivals.now; ids = a.ids.now; octets = a.octets.now; rate = a.rate.0 }) a.budget (record { bridge = a.bridge; waiting = a.waiting; next = a.start; free = a.free.0; events = 0; picks = 0; answers = a.answers.now; picked = a.picked.now; moments = a.moments.now }) (record { bridge = record { groups = l.groups; streams = l.streams }; waiting = lists l.times l.handles l.bits l.fills; next = l.next; free = l.free_at; events = l.events; picks = l.picks; answers = l.answers; picked = l.picked; moments = l.moments }) l.firsts l.places c.next_step-step.result = turn _ _ _ _ _ _ c.loop-stop.invariant _ c.soonest.ensures _ c.next_step-step.ensures in
-    let arrival_found : let l = c.loop-stop in let a = c.args in (1 ≤ a.budget - l.events) × (l.next < length a.arrivals.now) = arrival_within here c.in-Arrival.is in
-    omega (arith, arrival_found.1, c.loop-stop.invariant.many)
+overflow_add-next c = let h = arrival (goal.at.overflow_add-next c).In-Arrival in omega (arith, h.1, c.loop-stop.invariant.many)
 
 pub overflow_add-events : goal.overflow_add-events
-overflow_add-events c =
-    let here : let l = c.loop-stop in let a = c.args in Turn (record { arrivals = a.arrivals.now; ids = a.ids.now; octets = a.octets.now; rate = a.rate.0 }) a.budget (record { bridge = a.bridge; waiting = a.waiting; next = a.start; free = a.free.0; events = 0; picks = 0; answers = a.answers.now; picked = a.picked.now; moments = a.moments.now }) (record { bridge = record { groups = l.groups; streams = l.streams }; waiting = lists l.times l.handles l.bits l.fills; next = l.next; free = l.free_at; events = l.events; picks = l.picks; answers = l.answers; picked = l.picked; moments = l.moments }) l.firsts l.places c.next_step-step.result = turn _ _ _ _ _ _ c.loop-stop.invariant _ c.soonest.ensures _ c.next_step-step.ensures in
-    let arrival_found : let l = c.loop-stop in let a = c.args in (1 ≤ a.budget - l.events) × (l.next < length a.arrivals.now) = arrival_within here c.in-Arrival.is in
-    omega (arith, arrival_found.0, c.ranges.budget)
+overflow_add-events c = let h = arrival (goal.at.overflow_add-events c).In-Arrival in omega (arith, h.0, c.ranges.budget)
 
 pub loop-stop-smaller-in-Arrival : goal.loop-stop-smaller-in-Arrival
-loop-stop-smaller-in-Arrival c =
-    let here : let l = c.loop-stop in let a = c.args in Turn (record { arrivals = a.arrivals.now; ids = a.ids.now; octets = a.octets.now; rate = a.rate.0 }) a.budget (record { bridge = a.bridge; waiting = a.waiting; next = a.start; free = a.free.0; events = 0; picks = 0; answers = a.answers.now; picked = a.picked.now; moments = a.moments.now }) (record { bridge = record { groups = l.groups; streams = l.streams }; waiting = lists l.times l.handles l.bits l.fills; next = l.next; free = l.free_at; events = l.events; picks = l.picks; answers = l.answers; picked = l.picked; moments = l.moments }) l.firsts l.places c.next_step-step.result = turn _ _ _ _ _ _ c.loop-stop.invariant _ c.soonest.ensures _ c.next_step-step.ensures in
-    let arrival_found : let l = c.loop-stop in let a = c.args in (1 ≤ a.budget - l.events) × (l.next < length a.arrivals.now) = arrival_within here c.in-Arrival.is in
-    omega (arith, arrival_found.0)
+loop-stop-smaller-in-Arrival c = let h = arrival (goal.at.loop-stop-smaller-in-Arrival c).In-Arrival in omega (arith, h.0)
 
 pub loop-stop-preserved-in-Arrival : goal.loop-stop-preserved-in-Arrival
 loop-stop-preserved-in-Arrival c =
-    let here : let l = c.loop-stop in let a = c.args in Turn (record { arrivals = a.arrivals.now; ids = a.ids.now; octets = a.octets.now; rate = a.rate.0 }) a.budget (record { bridge = a.bridge; waiting = a.waiting; next = a.start; free = a.free.0; events = 0; picks = 0; answers = a.answers.now; picked = a.picked.now; moments = a.moments.now }) (record { bridge = record { groups = l.groups; streams = l.streams }; waiting = lists l.times l.handles l.bits l.fills; next = l.next; free = l.free_at; events = l.events; picks = l.picks; answers = l.answers; picked = l.picked; moments = l.moments }) l.firsts l.places c.next_step-step.result = turn _ _ _ _ _ _ c.loop-stop.invariant _ c.soonest.ensures _ c.next_step-step.ensures in
-    turn_arrives here c.in-Arrival.is _ _ c.place_of-at.ensures.place c.place_of-of.ensures.place _ c.judge_at-judged.ensures _ _ c.settle.ensures.0 _ _ c.settle.ensures.1
+    turn_arrives (turn _ _ _ _ c.loop-stop.invariant _ c.soonest.ensures _ c.next_step-step.ensures) c.in-Arrival.is _ _ c.place_of-at.ensures.place c.place_of-of.ensures.place _ c.judge_at-judged.ensures _ _ c.settle.ensures
 
-pub dequeue-left-requires : goal.dequeue-left-requires
-dequeue-left-requires c =
-    let here : let l = c.loop-stop in let a = c.args in Turn (record { arrivals = a.arrivals.now; ids = a.ids.now; octets = a.octets.now; rate = a.rate.0 }) a.budget (record { bridge = a.bridge; waiting = a.waiting; next = a.start; free = a.free.0; events = 0; picks = 0; answers = a.answers.now; picked = a.picked.now; moments = a.moments.now }) (record { bridge = record { groups = l.groups; streams = l.streams }; waiting = lists l.times l.handles l.bits l.fills; next = l.next; free = l.free_at; events = l.events; picks = l.picks; answers = l.answers; picked = l.picked; moments = l.moments }) l.firsts l.places c.next_step-step.result = turn _ _ _ _ _ _ c.loop-stop.invariant _ c.soonest.ensures _ c.next_step-step.ensures in
-    let pick_found : let l = c.loop-stop in Picks (c.args.budget - l.events) l.picks (length l.picked) (length l.moments) c.in-Pick.moment.0 = let n = c in pick_within here _ c.in-Pick.is in
-    (c.loop-stop.invariant.keeps, (pick_due here _ c.in-Pick.is, at_most PickMoment _ pick_found.in-time))
+pub dequeue-requires : goal.dequeue-requires
+dequeue-requires c = let h = picking (goal.at.dequeue-requires c).In-Pick in omega (arith, at_most PickMoment _ h.in-time)
+
+pub unreachable-requires : goal.unreachable-requires
+unreachable-requires c = some_leaves (turn _ _ _ _ c.loop-stop.invariant _ c.soonest.ensures _ c.next_step-step.ensures) _ c.in-Pick.is (record { shaped = c.loop-stop.queues.keeps.shaped; sound = c.loop-stop.queues.keeps.sound }) _ _ c.dequeue.ensures c.in_default.not-Leaves
 
 pub offset_bounds-picked-picks : goal.offset_bounds-picked-picks
-offset_bounds-picked-picks c =
-    let here : let l = c.loop-stop in let a = c.args in Turn (record { arrivals = a.arrivals.now; ids = a.ids.now; octets = a.octets.now; rate = a.rate.0 }) a.budget (record { bridge = a.bridge; waiting = a.waiting; next = a.start; free = a.free.0; events = 0; picks = 0; answers = a.answers.now; picked = a.picked.now; moments = a.moments.now }) (record { bridge = record { groups = l.groups; streams = l.streams }; waiting = lists l.times l.handles l.bits l.fills; next = l.next; free = l.free_at; events = l.events; picks = l.picks; answers = l.answers; picked = l.picked; moments = l.moments }) l.firsts l.places c.next_step-step.result = turn _ _ _ _ _ _ c.loop-stop.invariant _ c.soonest.ensures _ c.next_step-step.ensures in
-    let pick_found : let l = c.loop-stop in Picks (c.args.budget - l.events) l.picks (length l.picked) (length l.moments) c.in-Pick.moment.0 = pick_within here _ c.in-Pick.is in
-    omega (arith, pick_found.handle_room, c.loop-stop.invariant.picked_long, c.well_formed.1.1.1.1.1.1.1.1.1.1.0.1)
+offset_bounds-picked-picks c = let h = picking (goal.at.offset_bounds-picked-picks c).In-Pick in omega (arith, h.handle_room, c.loop-stop.invariant.picked_long)
 
 pub bounds-picked-picks : goal.bounds-picked-picks
-bounds-picked-picks c =
-    let here : let l = c.loop-stop in let a = c.args in Turn (record { arrivals = a.arrivals.now; ids = a.ids.now; octets = a.octets.now; rate = a.rate.0 }) a.budget (record { bridge = a.bridge; waiting = a.waiting; next = a.start; free = a.free.0; events = 0; picks = 0; answers = a.answers.now; picked = a.picked.now; moments = a.moments.now }) (record { bridge = record { groups = l.groups; streams = l.streams }; waiting = lists l.times l.handles l.bits l.fills; next = l.next; free = l.free_at; events = l.events; picks = l.picks; answers = l.answers; picked = l.picked; moments = l.moments }) l.firsts l.places c.next_step-step.result = turn _ _ _ _ _ _ c.loop-stop.invariant _ c.soonest.ensures _ c.next_step-step.ensures in
-    let pick_found : let l = c.loop-stop in Picks (c.args.budget - l.events) l.picks (length l.picked) (length l.moments) c.in-Pick.moment.0 = pick_within here _ c.in-Pick.is in
-    pick_found.handle_room
+bounds-picked-picks c = let h = picking (goal.at.bounds-picked-picks c).In-Pick in omega (arith, h.handle_room)
 
 pub offset_bounds-moments-picks : goal.offset_bounds-moments-picks
-offset_bounds-moments-picks c =
-    let here : let l = c.loop-stop in let a = c.args in Turn (record { arrivals = a.arrivals.now; ids = a.ids.now; octets = a.octets.now; rate = a.rate.0 }) a.budget (record { bridge = a.bridge; waiting = a.waiting; next = a.start; free = a.free.0; events = 0; picks = 0; answers = a.answers.now; picked = a.picked.now; moments = a.moments.now }) (record { bridge = record { groups = l.groups; streams = l.streams }; waiting = lists l.times l.handles l.bits l.fills; next = l.next; free = l.free_at; events = l.events; picks = l.picks; answers = l.answers; picked = l.picked; moments = l.moments }) l.firsts l.places c.next_step-step.result = turn _ _ _ _ _ _ c.loop-stop.invariant _ c.soonest.ensures _ c.next_step-step.ensures in
-    let pick_found : let l = c.loop-stop in Picks (c.args.budget - l.events) l.picks (length l.picked) (length l.moments) c.in-Pick.moment.0 = pick_within here _ c.in-Pick.is in
-    omega (arith, pick_found.moment_room, c.loop-stop.invariant.moments_long, c.well_formed.1.1.1.1.1.1.1.1.1.1.1.0.1)
+offset_bounds-moments-picks c = let h = picking (goal.at.offset_bounds-moments-picks c).In-Pick in omega (arith, h.moment_room, c.loop-stop.invariant.moments_long)
 
 pub bounds-moments-picks : goal.bounds-moments-picks
-bounds-moments-picks c =
-    let here : let l = c.loop-stop in let a = c.args in Turn (record { arrivals = a.arrivals.now; ids = a.ids.now; octets = a.octets.now; rate = a.rate.0 }) a.budget (record { bridge = a.bridge; waiting = a.waiting; next = a.start; free = a.free.0; events = 0; picks = 0; answers = a.answers.now; picked = a.picked.now; moments = a.moments.now }) (record { bridge = record { groups = l.groups; streams = l.streams }; waiting = lists l.times l.handles l.bits l.fills; next = l.next; free = l.free_at; events = l.events; picks = l.picks; answers = l.answers; picked = l.picked; moments = l.moments }) l.firsts l.places c.next_step-step.result = turn _ _ _ _ _ _ c.loop-stop.invariant _ c.soonest.ensures _ c.next_step-step.ensures in
-    let pick_found : let l = c.loop-stop in Picks (c.args.budget - l.events) l.picks (length l.picked) (length l.moments) c.in-Pick.moment.0 = pick_within here _ c.in-Pick.is in
-    pick_found.moment_room
+bounds-moments-picks c = let h = picking (goal.at.bounds-moments-picks c).In-Pick in omega (arith, h.moment_room)
 
 pub overflow_add-picks : goal.overflow_add-picks
-overflow_add-picks c =
-    let here : let l = c.loop-stop in let a = c.args in Turn (record { arrivals = a.arrivals.now; ids = a.ids.now; octets = a.octets.now; rate = a.rate.0 }) a.budget (record { bridge = a.bridge; waiting = a.waiting; next = a.start; free = a.free.0; events = 0; picks = 0; answers = a.answers.now; picked = a.picked.now; moments = a.moments.now }) (record { bridge = record { groups = l.groups; streams = l.streams }; waiting = lists l.times l.handles l.bits l.fills; next = l.next; free = l.free_at; events = l.events; picks = l.picks; answers = l.answers; picked = l.picked; moments = l.moments }) l.firsts l.places c.next_step-step.result = turn _ _ _ _ _ _ c.loop-stop.invariant _ c.soonest.ensures _ c.next_step-step.ensures in
-    let pick_found : let l = c.loop-stop in Picks (c.args.budget - l.events) l.picks (length l.picked) (length l.moments) c.in-Pick.moment.0 = pick_within here _ c.in-Pick.is in
-    omega (arith, pick_found.handle_room, c.loop-stop.invariant.picked_long, c.well_formed.1.1.1.1.1.1.1.1.1.1.0.0)
+overflow_add-picks c = let h = picking (goal.at.overflow_add-picks c).In-Pick in omega (arith, h.handle_room, c.loop-stop.invariant.picked_long)
+
+pub sending_ticks-requires : goal.sending_ticks-requires
+sending_ticks-requires c = (leaves_light (turn _ _ _ _ c.loop-stop.invariant _ c.soonest.ensures _ c.next_step-step.ensures) _ c.in-Pick.is (record { shaped = c.loop-stop.queues.keeps.shaped; sound = c.loop-stop.queues.keeps.sound }) _ _ c.dequeue.ensures _ _ c.in-Leaves.is, c.loop-stop.invariant.rate)
 
 pub overflow_add-free_at : goal.overflow_add-free_at
-overflow_add-free_at c =
-    let here : let l = c.loop-stop in let a = c.args in Turn (record { arrivals = a.arrivals.now; ids = a.ids.now; octets = a.octets.now; rate = a.rate.0 }) a.budget (record { bridge = a.bridge; waiting = a.waiting; next = a.start; free = a.free.0; events = 0; picks = 0; answers = a.answers.now; picked = a.picked.now; moments = a.moments.now }) (record { bridge = record { groups = l.groups; streams = l.streams }; waiting = lists l.times l.handles l.bits l.fills; next = l.next; free = l.free_at; events = l.events; picks = l.picks; answers = l.answers; picked = l.picked; moments = l.moments }) l.firsts l.places c.next_step-step.result = turn _ _ _ _ _ _ c.loop-stop.invariant _ c.soonest.ensures _ c.next_step-step.ensures in
-    let pick_found : let l = c.loop-stop in Picks (c.args.budget - l.events) l.picks (length l.picked) (length l.moments) c.in-Pick.moment.0 = pick_within here _ c.in-Pick.is in
-    omega (arith, at_most PickMoment _ pick_found.in-time, c.sending_ticks.ensures.1)
+overflow_add-free_at c = let h = picking (goal.at.overflow_add-free_at c).In-Pick in omega (arith, at_most PickMoment _ h.in-time, c.sending_ticks.ensures.1)
 
 pub overflow_add-events-in-Pick : goal.overflow_add-events-in-Pick
-overflow_add-events-in-Pick c =
-    let here : let l = c.loop-stop in let a = c.args in Turn (record { arrivals = a.arrivals.now; ids = a.ids.now; octets = a.octets.now; rate = a.rate.0 }) a.budget (record { bridge = a.bridge; waiting = a.waiting; next = a.start; free = a.free.0; events = 0; picks = 0; answers = a.answers.now; picked = a.picked.now; moments = a.moments.now }) (record { bridge = record { groups = l.groups; streams = l.streams }; waiting = lists l.times l.handles l.bits l.fills; next = l.next; free = l.free_at; events = l.events; picks = l.picks; answers = l.answers; picked = l.picked; moments = l.moments }) l.firsts l.places c.next_step-step.result = turn _ _ _ _ _ _ c.loop-stop.invariant _ c.soonest.ensures _ c.next_step-step.ensures in
-    let pick_found : let l = c.loop-stop in Picks (c.args.budget - l.events) l.picks (length l.picked) (length l.moments) c.in-Pick.moment.0 = pick_within here _ c.in-Pick.is in
-    omega (arith, pick_found.some, c.ranges.budget)
+overflow_add-events-in-Pick c = let h = picking (goal.at.overflow_add-events-in-Pick c).In-Pick in omega (arith, h.some, c.ranges.budget)
 
 pub loop-stop-smaller : goal.loop-stop-smaller
-loop-stop-smaller c =
-    let here : let l = c.loop-stop in let a = c.args in Turn (record { arrivals = a.arrivals.now; ids = a.ids.now; octets = a.octets.now; rate = a.rate.0 }) a.budget (record { bridge = a.bridge; waiting = a.waiting; next = a.start; free = a.free.0; events = 0; picks = 0; answers = a.answers.now; picked = a.picked.now; moments = a.moments.now }) (record { bridge = record { groups = l.groups; streams = l.streams }; waiting = lists l.times l.handles l.bits l.fills; next = l.next; free = l.free_at; events = l.events; picks = l.picks; answers = l.answers; picked = l.picked; moments = l.moments }) l.firsts l.places c.next_step-step.result = turn _ _ _ _ _ _ c.loop-stop.invariant _ c.soonest.ensures _ c.next_step-step.ensures in
-    let pick_found : let l = c.loop-stop in Picks (c.args.budget - l.events) l.picks (length l.picked) (length l.moments) c.in-Pick.moment.0 = pick_within here _ c.in-Pick.is in
-    omega (arith, pick_found.some)
+loop-stop-smaller c = let h = picking (goal.at.loop-stop-smaller c).In-Pick in omega (arith, h.some)
 
 pub loop-stop-preserved : goal.loop-stop-preserved
 loop-stop-preserved c =
-    let here : let l = c.loop-stop in let a = c.args in Turn (record { arrivals = a.arrivals.now; ids = a.ids.now; octets = a.octets.now; rate = a.rate.0 }) a.budget (record { bridge = a.bridge; waiting = a.waiting; next = a.start; free = a.free.0; events = 0; picks = 0; answers = a.answers.now; picked = a.picked.now; moments = a.moments.now }) (record { bridge = record { groups = l.groups; streams = l.streams }; waiting = lists l.times l.handles l.bits l.fills; next = l.next; free = l.free_at; events = l.events; picks = l.picks; answers = l.answers; picked = l.picked; moments = l.moments }) l.firsts l.places c.next_step-step.result = turn _ _ _ _ _ _ c.loop-stop.invariant _ c.soonest.ensures _ c.next_step-step.ensures in
-    turn_picks here _ c.in-Pick.is _ _ _ _ c.dequeue-left.ensures _ c.sending_ticks.ensures.0
+    turn_picks (turn _ _ _ _ c.loop-stop.invariant _ c.soonest.ensures _ c.next_step-step.ensures) _ c.in-Pick.is (record { shaped = c.loop-stop.queues.keeps.shaped; sound = c.loop-stop.queues.keeps.sound }) _ _ c.dequeue.ensures _ _ c.in-Leaves.is _ c.sending_ticks.ensures.0

@@ -1,28 +1,20 @@
 -- `line::start_of` meets its contract. Assumes nothing.
-use mathlib.Core.Path.{◌≡◌}
-use mathlib.Core.Bool.{true}
 use Rattle.quantity.proofs.Booleans.{refuted, confirmed}
-use Rattle.line.specs.Run.{lists_fit, line_fits, start_of}
+use Rattle.line.specs.Run.{start_of}
 use Rattle.line.proofs.start_of.Goals as goal
 
-pub returns-then-not-lists_fit : goal.returns-then-not-lists_fit
+pub returns-then-not-lists : goal.returns-then-not-lists
 unfolding start_of
-returns-then-not-lists_fit c = simp (refuted c.lists_fit.ensures c.if-not-lists_fit.true)
+returns-then-not-lists c = simp c.if-not-lists.true
 
-pub returns-then-not-line_fits : goal.returns-then-not-line_fits
+pub returns-then-not-line : goal.returns-then-not-line
 unfolding start_of
-returns-then-not-line_fits c = simp (confirmed c.lists_fit.ensures c.if-not-lists_fit.false, refuted c.line_fits.ensures c.if-not-line_fits.true)
+returns-then-not-line c = simp (c.if-not-lists.false, c.if-not-line.true)
 
 pub returns-then-not-all_sound : goal.returns-then-not-all_sound
 unfolding start_of
-returns-then-not-all_sound c =
-    let lists : let a = c.args in lists_fit a.arrivals a.ids a.octets a.start a.answers ≡ true = confirmed c.lists_fit.ensures c.if-not-lists_fit.false in
-    let line : let a = c.args in line_fits a.rate.0 a.free.0 ≡ true = confirmed c.line_fits.ensures c.if-not-line_fits.false in
-    simp (lists, line, refuted c.all_sound.ensures c.if-not-all_sound.true)
+returns-then-not-all_sound c = simp (c.if-not-lists.false, c.if-not-line.false, refuted c.all_sound.ensures c.if-not-all_sound.true)
 
 pub returns : goal.returns
 unfolding start_of
-returns c =
-    let lists : let a = c.args in lists_fit a.arrivals a.ids a.octets a.start a.answers ≡ true = confirmed c.lists_fit.ensures c.if-not-lists_fit.false in
-    let line : let a = c.args in line_fits a.rate.0 a.free.0 ≡ true = confirmed c.line_fits.ensures c.if-not-line_fits.false in
-    simp (lists, line, confirmed c.all_sound.ensures c.if-not-all_sound.false)
+returns c = simp (c.if-not-lists.false, c.if-not-line.false, confirmed c.all_sound.ensures c.if-not-all_sound.false)

@@ -4,4 +4,4 @@ use Rattle.replay_account.proofs.shown.Goals as goal
 
 pub returns : goal.returns
 returns c =
-    let a = c.args in shows a.account a.answers a.picked a.moments _ _ _ c.smaller.ensures c.smaller-2.ensures c.smaller-3.ensures
+    let a = c.args in shows a.account a.answers a.picked a.moments _ _ _ c.min.ensures c.min-2.ensures c.min-3.ensures

@@ -1,8 +1,8 @@
--- `places::put` meets its contract. Assumes nothing.
+-- `places::Waiting::put` meets its contract. Assumes nothing.
 use native.Mathlib.Omega.{arith}
 use Rattle.places.specs.Places.{with_last}
 use Rattle.places.proofs.Calls.{put_nowhere, put_full, put_done}
-use Rattle.places.proofs.put.Goals as goal
+use Rattle.places.proofs.Waiting.put.Goals as goal
 
 pub returns-then-class-gt-LAST_CLASS : goal.returns-then-class-gt-LAST_CLASS
 returns-then-class-gt-LAST_CLASS c = put_nowhere _ _ _ (omega arith)
