@@ -11,7 +11,7 @@ ghost use Rattle.listing_part.specs.Steps.{set_up_answer, frame_answer, next_ste
 
 use bridge::Bridge;
 use calls::SetUp;
-use listing_text::{Answered, Shown};
+use listing_text::Answered;
 use quantity::{Bits, Item, Rate, Ticks};
 use records::{Answer, Group, Stream};
 use tablefile::{Reading, Record};
@@ -53,7 +53,7 @@ fn set_up_answer(answer: SetUp) -> Answered
 {
     Answered {
         number: calls::set_up_number(answer),
-        time: Shown::Dash,
+        time: None,
     }
 }
 
@@ -64,16 +64,13 @@ fn frame_answer(answer: Answer) -> Answered
     match answer {
         Answer::Released(time) => Answered {
             number,
-            time: Shown::Time(time),
+            time: Some(time),
         },
         Answer::Discarded(time) => Answered {
             number,
-            time: Shown::Time(time),
+            time: Some(time),
         },
-        Answer::Refused(_) => Answered {
-            number,
-            time: Shown::Dash,
-        },
+        Answer::Refused(_) => Answered { number, time: None },
     }
 }
 

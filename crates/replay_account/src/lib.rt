@@ -3,7 +3,7 @@
 // live with the programs.
 #![tactic(auto)]
 
-ghost use Rattle.std.specs.Prelude.{◌≡◌, ◌&&◌, min, ltb, leb, length};
+ghost use Rattle.std.specs.Prelude.{◌≡◌, ◌&&◌, ltb, leb, length};
 ghost use Rattle.replay_text.specs.Lines.{line_room};
 ghost use Rattle.replay_account.specs.Account.{account_of, part_put};
 ghost use Rattle.replay_account.specs.Steps.{shown_of, Within, LineAt, next_after};
@@ -44,14 +44,13 @@ pub fn account_of(ran: Ran) -> Account
             last: Line::Refused(number),
         };
     }
-    let free = ran.free;
     Account {
         frames: ran.next,
         picks: ran.picks,
         last: Line::Stop {
             number,
             next: ran.next as u64,
-            free,
+            free: ran.free,
             events: ran.events,
             picks: ran.picks as u64,
         },
@@ -60,21 +59,15 @@ pub fn account_of(ran: Ran) -> Account
 
 // ---- the lines, by their numbers
 
-fn smaller(a: usize, b: usize) -> usize
-    ensures { result ≡ min a b }
-{
-    if a < b { a } else { b }
-}
-
 // The same account, with no more frames and picks than the lists hold.
+#[tactic(auto, unfolding(crate::specs::Steps::shown_of))]
 fn shown(account: Account, answers: usize, picked: usize, moments: usize) -> Account
     ensures { result ≡ shown_of account answers picked moments }
 {
-    let last = account.last;
     Account {
-        frames: smaller(account.frames, answers),
-        picks: smaller(smaller(account.picks, picked), moments),
-        last,
+        frames: account.frames.min(answers),
+        picks: account.picks.min(picked).min(moments),
+        ..account
     }
 }
 
@@ -106,23 +99,21 @@ fn line_at(account: Account, answers: &[u8], picked: &[u32], moments: &[u64], k:
 fn goes_on(k: usize, lines: usize, room: usize) -> bool
     ensures { result ≡ ltb k lines && leb line_room room }
 {
-    if k < lines {
-        return replay_text::LINE_ROOM <= room;
-    }
-    false
+    k < lines && replay_text::LINE_ROOM <= room
 }
 
 // What comes after the lines from the one number up to the other. None where there is some is for want of room.
+#[tactic(auto, unfolding(crate::specs::Steps::next_after))]
 fn next_after(from: usize, k: usize, lines: usize) -> Next
     ensures { result ≡ next_after from k lines }
 {
     if lines <= k {
-        return Next::Ends;
+        Next::Ends
+    } else if k <= from {
+        Next::Fails
+    } else {
+        Next::GoesOn
     }
-    if k <= from {
-        return Next::Fails;
-    }
-    Next::GoesOn
 }
 
 // Puts the lines of an account at the front of `out`, from a number on, as far as the longest line has room.
@@ -145,10 +136,9 @@ pub fn put_part(
         written = replay_text::put_line(out, written, line);
         k += 1;
     }
-    let next = next_after(from, k, lines);
     Part {
         line: k,
         written,
-        next,
+        next: next_after(from, k, lines),
     }
 }
