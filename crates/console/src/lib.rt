@@ -5,59 +5,45 @@
 // what it writes, is its own rooms'.
 #![tactic(auto)]
 
-ghost use Rattle.std.specs.Prelude.{◌≡◌, [], ◌∷◌, ◌≤◌, ◌<◌, ◌^◌, IfOk, length, take, drop, replicate};
+ghost use Rattle.std.specs.Prelude.{◌≡◌, [], ◌∷◌, ◌≤◌, length, take, drop, replicate};
 ghost use Rattle.std.specs.Io.KnownBytes.{Appends};
 ghost use Rattle.text.specs.Decimal.{decimal};
 ghost use Rattle.text.specs.Puts.{joined, puts};
-ghost use Rattle.console.specs.Answers.{only_waits, read_behind, sent_of};
-ghost use Rattle.console.specs.Calls.{kind_number, error_number, answered, further, CameFrom, WentTo};
+ghost use Rattle.console.specs.Answers.{only_waits, unread_by, brought, read_behind};
+ghost use Rattle.console.specs.Calls.{kind_number, error_number, numbered, further, CameFrom, WentTo, written_to, Wrote};
 ghost use Rattle.console.specs.Failures.{edge_word, failure_parts};
 
-use intake::Held;
+use intake::{Held, Unread};
 use std::io::{ErrorKind, Read, Write};
 use std::{io, thread};
 
 // A call that a signal interrupted before it moved a byte.
-const INTERRUPTED: u32 = 4;
+const INTERRUPTED: i32 = 4;
 
 // A call on what is not ready, and is not to be waited for.
-const NOT_READY: u32 = 11;
+const NOT_READY: i32 = 11;
 
 // A buffer of a line.
-const LINE_BYTES: usize = 4_096;
+pub const LINE_BYTES: usize = 4_096;
 
 // A buffer for a loop that moves much.
-const LARGE_BYTES: usize = 65_536;
+pub const LARGE_BYTES: usize = 65_536;
 
 // The system's words for an error, and its number behind them.
 const WORDS_BYTES: usize = 256;
 
-// What a call answered: how many bytes it moved, or -1, and then its error's number.
-#[derive(Clone, Copy, Drop)]
-struct Answer {
-    got: isize,
-    error: i32,
-}
-
-// What a reading brought: the system's answer and its error's number, and what is held after it.
+// What a reading brought: how many bytes, or the number of its error, and what is held after it.
 #[derive(Clone, Copy, Drop)]
 pub struct Came {
-    pub got: isize,
-    pub error: i32,
+    pub got: Result<usize, i32>,
     pub held: Held,
 }
 
-// How many bytes were written, and whether that is all of them.
+// What was written of bytes that were not all written, and the number of the last call's error, which is 0 where it had
+// none.
 #[derive(Clone, Copy, Drop)]
-pub struct Sent {
+pub struct Unwritten {
     pub count: usize,
-    pub whole: bool,
-}
-
-// What was written, and the number of the last call's error, which is 0 where it had none.
-#[derive(Clone, Copy, Drop)]
-pub struct Wrote {
-    pub sent: Sent,
     pub error: i32,
 }
 
@@ -97,17 +83,11 @@ pub fn large_buffer() -> [u8; LARGE_BYTES]
 // ---- the system's answers
 
 // Whether the call that failed so may be made again: it was interrupted, or only would have to wait.
+#[tactic(auto, unfolding(crate::specs::Answers::only_waits))]
 pub fn only_waits(error: i32) -> bool
     ensures { result ≡ only_waits error }
 {
-    if error < 0 {
-        return false;
-    }
-    let number = error as u32;
-    if number == INTERRUPTED {
-        return true;
-    }
-    number == NOT_READY
+    matches!(error, INTERRUPTED | NOT_READY)
 }
 
 // The number of an error of this kind that the system did not number: of the two after which a call is made again.
@@ -115,8 +95,8 @@ fn number_of_kind(kind: ErrorKind) -> i32
     ensures { result ≡ kind_number kind }
 {
     match kind {
-        ErrorKind::Interrupted => INTERRUPTED as i32,
-        ErrorKind::WouldBlock => NOT_READY as i32,
+        ErrorKind::Interrupted => INTERRUPTED,
+        ErrorKind::WouldBlock => NOT_READY,
         _ => 0,
     }
 }
@@ -131,153 +111,132 @@ fn number_of(error: &io::Error) -> i32
     }
 }
 
-fn answer_of(outcome: io::Result<usize>) -> Answer
-    requires { IfOk outcome (λ n. n < 2 ^ 63) }
-    ensures { result ≡ answered outcome }
+// How many bytes a call moved, or its error's number.
+fn numbered(outcome: io::Result<usize>) -> Result<usize, i32>
+    ensures { result ≡ numbered outcome }
 {
     match outcome {
-        Ok(n) => Answer {
-            got: n as isize,
-            error: 0,
-        },
-        Err(error) => Answer {
-            got: -1,
-            error: number_of(&error),
-        },
+        Ok(n) => Ok(n),
+        Err(error) => Err(number_of(&error)),
     }
 }
 
-// Lets others run before a call is made again.
-fn stand_by(got: isize, waits: bool) {
-    if got < 0 {
-        if waits {
-            thread::yield_now();
-        }
+// Lets others run before a call that only would have to wait is made again.
+fn stand_by(waits: bool) {
+    if waits {
+        thread::yield_now();
     }
 }
 
 // ---- reading
 
+// Why a reading that failed so brought nothing.
+fn unread_by(error: i32) -> Unread
+    ensures { result ≡ unread_by error }
+{
+    let waits = only_waits(error);
+    stand_by(waits);
+    if waits { Unread::Waits } else { Unread::Fails }
+}
+
+// What a reading that answered so has brought.
+fn brought(got: Result<usize, i32>) -> Result<usize, Unread>
+    ensures { result ≡ brought got }
+{
+    match got {
+        Ok(n) => Ok(n),
+        Err(error) => Err(unread_by(error)),
+    }
+}
+
+// Reads once from an input, into the places from one on. Where it is not in the buffer, that fails.
+fn read_from<R: Read>(input: &mut R, bytes: &mut [u8], from: usize) -> Result<usize, i32>
+    ensures kept { take from bytes.new ≡ take from bytes.old }
+    ensures came { CameFrom (R.remaining input.old) (R.remaining input.new) result (drop from bytes.new) }
+{
+    if bytes.len() < from {
+        return Err(0);
+    }
+    numbered(input.read(&mut bytes[from..]))
+}
+
 // Reads once from an input, behind the bytes that are held.
 pub fn read_behind<R: Read>(input: &mut R, bytes: &mut [u8], held: Held) -> Came
-    ensures read { record { came = result; bytes = bytes.new } ≡ read_behind held bytes.old result.got result.error bytes.new }
+    ensures read { record { came = result; bytes = bytes.new } ≡ read_behind held bytes.old result.got bytes.new }
     ensures came { CameFrom (R.remaining input.old) (R.remaining input.new) result.got (drop held.filled bytes.new) }
 {
     let size = bytes.len();
-    let filled = held.filled;
-    if size < filled {
-        let got = -1;
-        let after = intake::after_reading(held, got, false, size);
-        return Came {
-            got,
-            error: 0,
-            held: after,
-        };
-    }
-    let answer = answer_of(input.read(&mut bytes[filled..]));
-    let got = answer.got;
-    let error = answer.error;
-    let waits = only_waits(error);
-    stand_by(got, waits);
-    let after = intake::after_reading(held, got, waits, size);
+    let got = read_from(input, bytes, held.filled);
     Came {
         got,
-        error,
-        held: after,
+        held: held.after_reading(brought(got), size),
     }
 }
 
 // ---- writing
 
-fn sent_of(count: usize, size: usize) -> Sent
-    ensures { result ≡ sent_of count size }
-{
-    if size <= count {
-        return Sent {
-            count: size,
-            whole: true,
-        };
-    }
-    Sent {
-        count,
-        whole: false,
-    }
-}
-
 // Writes once, from a place on, and says how many bytes were taken.
-fn write_from<W: Write>(out: &mut W, bytes: &[u8], at: usize) -> Answer
+fn write_from<W: Write>(out: &mut W, bytes: &[u8], at: usize) -> Result<usize, i32>
     requires { at ≤ length bytes.now }
-    ensures { WentTo (W.contents out.old) (W.contents out.new) result.got (drop at bytes.now) }
+    ensures { WentTo (W.contents out.old) (W.contents out.new) result (drop at bytes.now) }
 {
-    answer_of(out.write(&bytes[at..]))
+    numbered(out.write(&bytes[at..]))
 }
 
 // The place after so many bytes more.
-fn further(at: usize, got: isize, size: usize) -> usize
+fn further(at: usize, got: Result<usize, i32>, size: usize) -> usize
     requires { at ≤ size }
     ensures within { (at ≤ result) × (result ≤ size) }
     ensures place { result ≡ further at got size }
 {
-    if got > 0 {
-        let n = got as usize;
-        if n < size - at {
-            return at + n;
-        }
-        return size;
+    match got {
+        Ok(n) => at + n.min(size - at),
+        Err(_) => at,
     }
-    at
 }
 
 // Whether a writing that answered so is to be made again: it took some of the bytes, or only would have to wait.
-fn goes_on(got: isize, error: i32) -> bool {
-    if got >= 0 {
-        return got > 0;
+fn goes_on(got: Result<usize, i32>) -> bool {
+    match got {
+        Ok(n) => n > 0,
+        Err(error) => {
+            let waits = only_waits(error);
+            stand_by(waits);
+            waits
+        }
     }
-    let waits = only_waits(error);
-    stand_by(got, waits);
-    waits
 }
 
-// What was written, up to a place.
-fn written_to(at: usize, size: usize, error: i32) -> Wrote
-    ensures sent { result.sent ≡ sent_of at size }
-    ensures error { result.error ≡ error }
+// What a writing came to that stopped at a place.
+fn written_to(at: usize, size: usize, error: i32) -> Result<(), Unwritten>
+    ensures { result ≡ written_to at size error }
 {
-    let sent = sent_of(at, size);
-    Wrote { sent, error }
+    if size <= at {
+        return Ok(());
+    }
+    Err(Unwritten { count: at, error })
 }
 
-// Writes all of the bytes, or as many as can be, and says what the last call's error was. A proved loop has to end, and
-// nothing says that a device is ever ready: it counts its tries, from a number that no writing uses up.
-pub fn write_through<W: Write>(out: &mut W, bytes: &[u8]) -> Wrote
-    ensures sent { result.sent ≡ sent_of result.sent.count (length bytes.now) }
-    ensures went { Appends (W.contents out.old) (W.contents out.new) (take result.sent.count bytes.now) }
+// Writes all of the bytes, or as many as can be, and then says how many and what the last call's error was. A proved loop
+// has to end, and nothing says that a device is ever ready: it counts its tries, up to a number that no writing reaches.
+pub fn write_out<W: Write>(out: &mut W, bytes: &[u8]) -> Result<(), Unwritten>
+    ensures { Wrote (W.contents out.old) (W.contents out.new) bytes.now result }
 {
     let size = bytes.len();
     let mut at: usize = 0;
     let mut error: i32 = 0;
-    let mut tries = u64::MAX;
-    while tries > 0 {
-        tries -= 1;
-        if size <= at {
+    for tries in 0..u64::MAX {
+        if at >= size {
             return written_to(at, size, error);
         }
-        let answer = write_from(out, bytes, at);
-        error = answer.error;
-        at = further(at, answer.got, size);
-        if !goes_on(answer.got, error) {
+        let got = write_from(out, bytes, at);
+        error = got.err().unwrap_or(0);
+        at = further(at, got, size);
+        if !goes_on(got) {
             return written_to(at, size, error);
         }
     }
     written_to(at, size, error)
-}
-
-// Writes all of the bytes, or as many as can be.
-pub fn write_out<W: Write>(out: &mut W, bytes: &[u8]) -> Sent
-    ensures sent { result ≡ sent_of result.count (length bytes.now) }
-    ensures went { Appends (W.contents out.old) (W.contents out.new) (take result.count bytes.now) }
-{
-    write_through(out, bytes).sent
 }
 
 // ---- what failed
@@ -311,15 +270,13 @@ fn put_words(room: &mut [u8], error: i32) {
 fn words_end(room: &[u8]) -> usize
     ensures { result ≤ length room.now }
 {
-    for i in 0..room.len() {
-        if room[i] == 0 {
-            return i;
-        }
-        if room[i..].starts_with(b" (os error ") {
-            return i;
-        }
-    }
-    room.len()
+    let unused = room.iter().position(|byte| *byte == 0);
+    let number = room
+        .windows(11)
+        .position(|part| part == b" (os error ".as_slice());
+    unused
+        .unwrap_or(room.len())
+        .min(number.unwrap_or(room.len()))
 }
 
 // A line: what failed, and the system's own words for the error of this number.
@@ -408,23 +365,24 @@ mod tests {
     fn a_reading_that_waits_is_made_again(rt: HostRuntime) {
         let mut input = Worse { calls: 0 };
         let mut bytes = [0u8; 8];
-        let interrupted = read_behind(&mut input, &mut bytes, intake::nothing());
-        assert_eq!(rt; interrupted.error, 4);
+        let interrupted = read_behind(&mut input, &mut bytes, Held::nothing());
+        assert_eq!(rt; interrupted.got, Err(4));
         assert!(rt; matches!(interrupted.held.told, intake::Told::More));
         let waited = read_behind(&mut input, &mut bytes, interrupted.held);
-        assert_eq!(rt; waited.error, 11);
+        assert_eq!(rt; waited.got, Err(11));
         assert!(rt; matches!(waited.held.told, intake::Told::More));
         let gone = read_behind(&mut input, &mut bytes, waited.held);
-        assert_eq!(rt; gone.error, 5);
+        assert_eq!(rt; gone.got, Err(5));
         assert!(rt; matches!(gone.held.told, intake::Told::Failed));
     }
 
     #[test]
     fn a_writing_stops_where_there_is_no_room(rt: HostRuntime) {
         let mut out = Small { room: 3 };
-        let wrote = write_through(&mut out, b"abcdef");
-        assert_eq!(rt; wrote.sent.count, 3);
-        assert!(rt; !wrote.sent.whole);
-        assert_eq!(rt; wrote.error, 28);
+        let wrote = write_out(&mut out, b"abcdef");
+        assert_eq!(rt;
+            wrote.map_err(|part| (part.count, part.error)),
+            Err((3, 28))
+        );
     }
 }

@@ -1,13 +1,14 @@
 -- The promises of a session, proved: each theorem has the name of its statement in specs/Promises. Assumes nothing.
 use mathlib.Core.Path.{◌≡◌, refl, sym, ap, ◌∙◌, subst}
 use mathlib.Core.Bool.{Bool, true, false, cond}
+use mathlib.Core.Logic.{◌⊎◌, inl, inr}
 use mathlib.Core.List.{List, [], ◌∷◌, ◌++◌, append_assoc, append-nil}
 use Prim.Native.Nat.{ℕ, zero, suc, ◌+◌, ◌-◌, ◌≤◌, ◌<◌, min}
 use native.Mathlib.Nat.{zero-add, sub-zero, suc-sub-suc}
-use borrow.Author.Tests.{le-leb, lt-leb, leb-true}
+use borrow.Author.Tests.{le-leb, leb-true}
 use lib.Dec.{leb}
 use native.Mathlib.Omega.{arith}
-use lib.IntN.{pos, negsuc}
+use Rattle.std.specs.Prelude.{Ok, Err}
 use lib.ListN.{length, take, drop, length-append}
 use lib.Seq.{sets, sets-eq, length-sets, take_at, take-add, drop-drop}
 use Rattle.tablefile.specs.BigEndian.{AreBytes}
@@ -261,9 +262,9 @@ saying_within h x size w = record { ahead = w.ahead; inside = w.inside }
 
 pub reading_within : ReadingWithin
 unfolding came_in
-reading_within h (pos zero) waits size w = saying_within h _ size w
-reading_within h (pos (suc k)) waits size w = record { ahead = omega (arith, w.ahead); inside = omega (arith, w.inside) }
-reading_within h (negsuc k) waits size w = saying_within h _ size w
+reading_within h (Ok zero) size w = saying_within h _ size w
+reading_within h (Ok (suc k)) size w = record { ahead = omega (arith, w.ahead); inside = omega (arith, w.inside) }
+reading_within h (Err why) size w = saying_within h _ size w
 
 pub within_is : (h : Held) (size : ℕ) → Within h size → is_within h size ≡ true
 unfolding is_within
@@ -272,14 +273,6 @@ within_is h size w = rw (le-leb _ _ w.ahead, le-leb _ _ w.inside)
 pub is_within_law : (h : Held) (size : ℕ) → is_within h size ≡ true → Within h size
 unfolding is_within
 is_within_law h size e = let p = both (leb h.place h.filled) (leb h.filled size) e in record { ahead = leb-true _ _ p.0; inside = leb-true _ _ p.1 }
-
-pub behind_is_not : (h : Held) (size : ℕ) → h.filled < h.place → false ≡ is_within h size
-unfolding is_within
-behind_is_not h size e = rw (lt-leb _ _ e)
-
-pub ahead_is : (h : Held) (size : ℕ) → h.place ≤ h.filled → leb h.filled size ≡ is_within h size
-unfolding is_within
-ahead_is h size e = rw (le-leb _ _ e)
 
 pub unmoved : (x : Next) (h : Held) (l : List ℕ) → is_within h (length l) ≡ false → as_it_was h l ≡ kept_for x h l
 unfolding kept_for
@@ -291,6 +284,13 @@ unmoved Fails h l e = refl
 pub brought : (h : Held) (l : List ℕ) → Within h (length l) → kept_for Reads h l ≡ brought_kept h l
 unfolding kept_for
 brought h l w = cond_true (is_within h (length l)) (brought_kept h l) (as_it_was h l) (within_is h (length l) w)
+
+-- where no reading comes next
+pub stays : (x : Next) (h : Held) (l : List ℕ) → (x ≡ GoesOn) ⊎ ((x ≡ Ends) ⊎ (x ≡ Fails)) → as_it_was h l ≡ kept_for x h l
+unfolding kept_for
+stays x h l (inl e) = sym (ap (λ (y : Next). kept_for y h l) e)
+stays x h l (inr (inl e)) = sym (ap (λ (y : Next). kept_for y h l) e)
+stays x h l (inr (inr e)) = sym (ap (λ (y : Next). kept_for y h l) e)
 
 pub kept_within : KeptWithin
 unfolding kept_for brought_kept held_in as_it_was
@@ -360,7 +360,7 @@ held_after_use h used l w =
 
 pub held_after_reading : HeldAfterReading
 unfolding held_in came_in
-held_after_reading h k waits size l m w same =
+held_after_reading h k size l m w same =
     let n = h.filled - h.place in
     let c = min (suc k) (size - h.filled) in
     let more : h.filled + c - h.place ≡ n + c = omega (arith, w.ahead) in
@@ -476,7 +476,7 @@ module _ {S : Type 0} (step : Stepping S) (start : S) (n : ℕ) where
 
 pub reading_stands : ReadingStands
 unfolding came_in
-reading_stands S step start n s h l w r (pos zero) waits m same = said_so step start n _ s h l m w.ahead same r
-reading_stands S step start n s h l w r (pos (suc k)) waits m same =
-    subst (λ (x : List ℕ). MayTurn step start (suc n) s x told.More) (sym (held_after_reading h k waits (length l) l m w same)) (brought_more step start n _ s (held_in h l) r)
-reading_stands S step start n s h l w r (negsuc k) waits m same = said_so step start n _ s h l m w.ahead same r
+reading_stands S step start n s h l w r (Ok zero) m same = said_so step start n _ s h l m w.ahead same r
+reading_stands S step start n s h l w r (Ok (suc k)) m same =
+    subst (λ (x : List ℕ). MayTurn step start (suc n) s x told.More) (sym (held_after_reading h k (length l) l m w same)) (brought_more step start n _ s (held_in h l) r)
+reading_stands S step start n s h l w r (Err why) m same = said_so step start n _ s h l m w.ahead same r

@@ -1,12 +1,14 @@
 -- What of the input a lent buffer holds. No sentence of document 01 stands here.
--- h is what is held, l the buffer, size its bytes, got and waits what a reading answered.
-use Rattle.std.specs.Prelude.{ℕ, zero, suc, ◌+◌, ◌-◌, ◌≤◌, min, Bool, cond, ◌&&◌, List, ltb, leb, ℤ, pos, negsuc, length, take, drop}
+-- h is what is held, l the buffer, size its bytes.
+use Rattle.std.specs.Prelude.{ℕ, zero, suc, ◌+◌, ◌-◌, ◌≤◌, min, Bool, cond, ◌&&◌, List, Result, Ok, Err, ltb, leb, length, take, drop}
 use Rattle.std.proofs.lemmas.List.Edits.{sets}
 use Rattle.intake.specs.declared.Held.{Held}
 use Rattle.intake.specs.declared.Next.{Next}
 use Rattle.intake.specs.declared.Next.TheVariants.{GoesOn, Reads, Ends, Fails}
 use Rattle.intake.specs.declared.Told.{Told}
 use Rattle.intake.specs.declared.Told.TheVariants.{More, Ended, Failed}
+use Rattle.intake.specs.declared.Unread.{Unread}
+use Rattle.intake.specs.declared.Unread.TheVariants as unread
 
 unfoldable pub nothing_held : Held
 nothing_held = record { place = 0; filled = 0; told = More }
@@ -29,11 +31,16 @@ pub record Within (h : Held) (size : ℕ) : Type 0 where
 unfoldable pub saying : Held → Told → Held
 saying h t = record { place = h.place; filled = h.filled; told = t }
 
--- after a reading into the places behind them. So many came; or none, which is the end, if there was a place to read into; or it failed, and where it only would have to wait there may be more
-unfoldable pub came_in : Held → ℤ → Bool → ℕ → Held
-came_in h (pos zero) waits size = saying h (cond (ltb h.filled size) Ended Failed)
-came_in h (pos (suc k)) waits size = record { place = h.place; filled = h.filled + min (suc k) (size - h.filled); told = More }
-came_in h (negsuc k) waits size = saying h (cond waits More Failed)
+-- it only would have to wait, and then there may be more; or it failed
+unfoldable pub told_unread : Unread → Told
+told_unread unread.Waits = More
+told_unread unread.Fails = Failed
+
+-- after a reading into the places behind them. So many came; or none, which is the end, if there was a place to read into; or it brought nothing, and says why
+unfoldable pub came_in : Held → Result ℕ Unread → ℕ → Held
+came_in h (Ok zero) size = saying h (cond (ltb h.filled size) Ended Failed)
+came_in h (Ok (suc k)) size = record { place = h.place; filled = h.filled + min (suc k) (size - h.filled); told = More }
+came_in h (Err why) size = saying h (told_unread why)
 
 -- ---- what is kept
 

@@ -1,12 +1,13 @@
 -- What is promised of a session, whatever its turns do, where each turn is right and moves on.
 -- Each statement has a name here, and its proof under the same name in the file Promises of proofs/.
-use Rattle.std.specs.Prelude.{ℕ, suc, ◌+◌, ◌-◌, ◌≤◌, ◌<◌, min, ◌≡◌, Bool, List, [], ◌++◌, ℤ, pos, length, take, drop}
+use Rattle.std.specs.Prelude.{ℕ, suc, ◌+◌, ◌-◌, ◌≤◌, ◌<◌, min, ◌≡◌, List, [], ◌++◌, Result, Ok, length, take, drop}
 use Rattle.tablefile.specs.BigEndian.{AreBytes}
 use Rattle.intake.specs.declared.Told.{Told}
 use Rattle.intake.specs.declared.Told.TheVariants.{More, Ended, Failed}
 use Rattle.intake.specs.declared.Next.{Next}
 use Rattle.intake.specs.declared.Next.TheVariants.{GoesOn, Reads, Ends, Fails}
 use Rattle.intake.specs.declared.Held.{Held}
+use Rattle.intake.specs.declared.Unread.{Unread}
 use Rattle.intake.specs.Holding.{Within, held_in, came_in, kept_for}
 use Rattle.intake.specs.Sessions.{Input, bytes_of, readings, EndsWell, Stepping, session_of, Stood, MayTurn, MayRead, HasEnded, Turned}
 
@@ -100,14 +101,14 @@ TurnStands =
 abbrev pub ReadingStands : Type 1
 ReadingStands =
     (S : Type 0) (step : Stepping S) (start : S) (n : ℕ) (s : S) (h : Held) (l : List ℕ) → Within h (length l) → MayRead step start n s (held_in h l)
-    → (got : ℤ) (waits : Bool) (m : List ℕ) → take h.filled m ≡ take h.filled l
-    → MayTurn step start (suc n) s (held_in (came_in h got waits (length l)) m) (came_in h got waits (length l)).told
+    → (got : Result ℕ Unread) (m : List ℕ) → take h.filled m ≡ take h.filled l
+    → MayTurn step start (suc n) s (held_in (came_in h got (length l)) m) (came_in h got (length l)).told
 
 -- ---- the buffer
 
 -- what is held stays within the buffer: after a reading, and brought to the front
 abbrev pub ReadingWithin : Type 0
-ReadingWithin = (h : Held) (got : ℤ) (waits : Bool) (size : ℕ) → Within h size → Within (came_in h got waits size) size
+ReadingWithin = (h : Held) (got : Result ℕ Unread) (size : ℕ) → Within h size → Within (came_in h got size) size
 
 abbrev pub KeptWithin : Type 0
 KeptWithin =
@@ -132,5 +133,5 @@ HeldAfterUse =
 -- and after a reading that left those bytes as they were and brought more: they and what it brought
 abbrev pub HeldAfterReading : Type 0
 HeldAfterReading =
-    (h : Held) (k : ℕ) (waits : Bool) (size : ℕ) (l m : List ℕ) → Within h size → take h.filled m ≡ take h.filled l
-    → held_in (came_in h (pos (suc k)) waits size) m ≡ held_in h l ++ take (min (suc k) (size - h.filled)) (drop h.filled m)
+    (h : Held) (k : ℕ) (size : ℕ) (l m : List ℕ) → Within h size → take h.filled m ≡ take h.filled l
+    → held_in (came_in h (Ok (suc k)) size) m ≡ held_in h l ++ take (min (suc k) (size - h.filled)) (drop h.filled m)

@@ -3,9 +3,9 @@
 // What a turn does with the bytes is the program's own room's. To read and to write is `console`'s.
 #![tactic(auto)]
 
-ghost use Rattle.std.specs.Prelude.{◌≡◌, cond, ◌+◌, ◌-◌, ◌≤◌, min, length};
-ghost use Rattle.intake.specs.declared.Told.TheVariants.{More, Ended, Failed};
-ghost use Rattle.intake.specs.Holding.{nothing_held, is_within, came_in, brought_kept, kept_for};
+ghost use Rattle.std.specs.Prelude.{◌≡◌, cond, ◌≤◌, length};
+ghost use Rattle.intake.specs.declared.Told.TheVariants.{Ended, Failed};
+ghost use Rattle.intake.specs.Holding.{nothing_held, is_within, saying, told_unread, came_in, brought_kept, kept_for};
 
 // What the last reading said of the input.
 #[derive(Clone, Copy, Drop)]
@@ -31,6 +31,15 @@ pub enum Next {
     Fails,
 }
 
+// Why a reading has brought nothing.
+#[derive(Clone, Copy, Drop)]
+pub enum Unread {
+    // It only would have to wait.
+    Waits,
+    // It failed.
+    Fails,
+}
+
 // What of the input stands in the buffer and is still to be used: from the one place up to the other.
 #[derive(Clone, Copy, Drop)]
 pub struct Held {
@@ -39,48 +48,15 @@ pub struct Held {
     pub told: Told,
 }
 
-// Nothing was read yet.
-pub fn nothing() -> Held
-    ensures { result ≡ nothing_held }
-{
-    let told = Told::More;
-    Held {
-        place: 0,
-        filled: 0,
-        told,
-    }
-}
-
-// Whether the bytes that are held are in a buffer of so many bytes.
-pub fn is_within(held: Held, size: usize) -> bool
-    ensures { result ≡ is_within held size }
-{
-    if held.filled < held.place {
-        return false;
-    }
-    held.filled <= size
-}
-
-// ---- after a reading
-
-// So many more places filled, as far as there are any.
-fn more_filled(filled: usize, n: usize, size: usize) -> usize
-    ensures { result ≡ filled + min n (size - filled) }
-{
-    if size < filled {
-        return filled;
-    }
-    if n < size - filled {
-        return filled + n;
-    }
-    size
-}
-
 // A reading that only would have to wait brought nothing, and there may be more.
-fn told_by_failure(waits: bool) -> Told
-    ensures { result ≡ cond waits More Failed }
+#[tactic(auto, unfolding(crate::specs::Holding::told_unread))]
+fn told_by_failure(why: Unread) -> Told
+    ensures { result ≡ told_unread why }
 {
-    if waits { Told::More } else { Told::Failed }
+    match why {
+        Unread::Waits => Told::More,
+        Unread::Fails => Told::Failed,
+    }
 }
 
 // None is the end; but where there was no room to read into, it says nothing.
@@ -90,70 +66,72 @@ fn told_by_none(room: bool) -> Told
     if room { Told::Ended } else { Told::Failed }
 }
 
-// What is held after a reading behind the bytes that were: it answered how many came, or a number below 0 where it
-// failed, and whether it only would have to wait.
-pub fn after_reading(held: Held, got: isize, waits: bool, size: usize) -> Held
-    ensures { result ≡ came_in held got waits size }
-{
-    let place = held.place;
-    let filled = held.filled;
-    if got > 0 {
-        let more = more_filled(filled, got as usize, size);
-        return Held {
-            place,
-            filled: more,
+impl Held {
+    // Nothing was read yet.
+    #[tactic(auto, unfolding(crate::specs::Holding::nothing_held))]
+    pub fn nothing() -> Held
+        ensures { result ≡ nothing_held }
+    {
+        Held {
+            place: 0,
+            filled: 0,
             told: Told::More,
-        };
+        }
     }
-    if got < 0 {
-        let told = told_by_failure(waits);
-        return Held {
-            place,
-            filled,
-            told,
-        };
-    }
-    let told = told_by_none(filled < size);
-    Held {
-        place,
-        filled,
-        told,
-    }
-}
 
-// ---- before a reading
+    // Whether the bytes that are held are in a buffer of so many bytes.
+    #[tactic(auto, unfolding(crate::specs::Holding::is_within))]
+    pub fn is_within(self, size: usize) -> bool
+        ensures { result ≡ is_within self size }
+    {
+        self.place <= self.filled && self.filled <= size
+    }
 
-// Moves the bytes that are held to the buffer's front.
-fn keep(bytes: &mut [u8], held: Held) -> Held
-    requires { (held.place ≤ held.filled) × (held.filled ≤ length bytes.old) }
-    ensures { record { held = result; bytes = bytes.new } ≡ brought_kept held bytes.old }
-{
-    let place = held.place;
-    let told = held.told;
-    let n = held.filled - place;
-    let mut i = 0;
-    while i < n {
-        bytes[i] = bytes[place + i];
-        i += 1;
+    // The same bytes, and what a reading said.
+    #[tactic(auto, unfolding(crate::specs::Holding::saying))]
+    fn saying(self, told: Told) -> Held
+        ensures { result ≡ saying self told }
+    {
+        Held { told, ..self }
     }
-    Held {
-        place: 0,
-        filled: n,
-        told,
-    }
-}
 
-// Makes room for a reading where one comes next: what is held moves to the front. Else it stays where it is.
-pub fn keep_for(bytes: &mut [u8], held: Held, next: Next) -> Held
-    ensures { record { held = result; bytes = bytes.new } ≡ kept_for next held bytes.old }
-{
-    if !is_within(held, bytes.len()) {
-        return held;
+    // What is held after a reading behind the bytes that were: how many came, or why none did.
+    pub fn after_reading(self, got: Result<usize, Unread>, size: usize) -> Held
+        ensures { result ≡ came_in self got size }
+    {
+        match got {
+            Ok(0) => self.saying(told_by_none(self.filled < size)),
+            Ok(n) => Held {
+                filled: self.filled + n.min(size.saturating_sub(self.filled)),
+                ..self.saying(Told::More)
+            },
+            Err(why) => self.saying(told_by_failure(why)),
+        }
     }
-    match next {
-        Next::GoesOn => held,
-        Next::Reads => keep(bytes, held),
-        Next::Ends => held,
-        Next::Fails => held,
+
+    // Moves the bytes that are held to the buffer's front.
+    fn keep(self, bytes: &mut [u8]) -> Held
+        requires { (self.place ≤ self.filled) × (self.filled ≤ length bytes.old) }
+        ensures { record { held = result; bytes = bytes.new } ≡ brought_kept self bytes.old }
+    {
+        bytes.copy_within(self.place..self.filled, 0);
+        Held {
+            place: 0,
+            filled: self.filled - self.place,
+            ..self
+        }
+    }
+
+    // Makes room for a reading where one comes next: what is held moves to the front. Else it stays where it is.
+    pub fn keep_for(self, bytes: &mut [u8], next: Next) -> Held
+        ensures { record { held = result; bytes = bytes.new } ≡ kept_for next self bytes.old }
+    {
+        if !self.is_within(bytes.len()) {
+            return self;
+        }
+        match next {
+            Next::Reads => self.keep(bytes),
+            Next::GoesOn | Next::Ends | Next::Fails => self,
+        }
     }
 }

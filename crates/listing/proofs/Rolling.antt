@@ -4,7 +4,7 @@ use Rattle.intake.specs.Holding.{Within, nothing_held, came_in}
 use Rattle.intake.specs.declared.Held.{Held}
 use Rattle.intake.specs.declared.Next.TheVariants.{GoesOn, Reads}
 use Rattle.intake.proofs.Promises.{reading_within}
-use Rattle.console.specs.Answers.{only_waits, read_behind}
+use Rattle.console.specs.Answers.{brought, read_behind}
 use Rattle.console.specs.declared.Came.{Came}
 use Rattle.console.proofs.Answers.{read_gave}
 use Rattle.listing_turn.specs.Turns.{begun_listing, with_held, Made, turn_made}
@@ -68,21 +68,21 @@ module _ (i₀ o₀ : List ℕ) (r : Turned) (n : ℕ) (i o : List ℕ) (t : Tur
 
   -- or reads
   pub reads_on : r.next ≡ Reads → (c : Came) (x : Standing) (i₂ : List ℕ) → length i₂ ≡ length i
-      → record { came = c; bytes = i₂ } ≡ read_behind r.standing.held i c.got c.error i₂
+      → record { came = c; bytes = i₂ } ≡ read_behind r.standing.held i c.got i₂
       → x ≡ with_held r.standing c.held
       → Rolling i₀ o₀ x (n + 1) i₂ o
   unfolding with_held
   reads_on q c x i₂ same e f =
       let h = r.standing.held in
       let g = read_gave h i c i₂ t.within.inside e in
-      let came = came_in h c.got (only_waits c.error) (length i) in
+      let came = came_in h (brought c.got) (length i) in
       let is : x ≡ with_held r.standing came = f ∙ ap (with_held r.standing) g.0 in
       let held : x.held ≡ came = ap (λ (y : Standing). y.held) is in
       record {
-        within = subst (λ (k : ℕ). Within x.held k) (sym same) (subst (λ (y : Held). Within y (length i)) (sym held) (reading_within h c.got (only_waits c.error) (length i) t.within));
+        within = subst (λ (k : ℕ). Within x.held k) (sym same) (subst (λ (y : Held). Within y (length i)) (sym held) (reading_within h (brought c.got) (length i) t.within));
         may =
             subst (λ (k : ℕ). MayList (length o) k x i₂) (sym (add-one n))
-            (subst (λ (y : Standing). MayList (length o) (suc n) y i₂) (sym is) (reading_stands (length o) n r.standing i t.within (t.ahead.reads q) c.got (only_waits c.error) i₂ g.1));
+            (subst (λ (y : Standing). MayList (length o) (suc n) y i₂) (sym is) (reading_stands (length o) n r.standing i t.within (t.ahead.reads q) (brought c.got) i₂ g.1));
         long = same ∙ t.long;
         wide = t.wide;
       }

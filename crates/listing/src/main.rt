@@ -5,11 +5,11 @@
 
 ghost use Rattle.std.specs.Prelude.{◌≡◌, length};
 ghost use Rattle.intake.specs.Holding.{Within};
-ghost use Rattle.listing_turn.specs.Turns.{with_held, turn_made};
+ghost use Rattle.listing_turn.specs.Turns.{turn_made};
 ghost use Rattle.listing_turn.specs.Promises.{MayList};
 
 use console::{Edge, Failure};
-use intake::{Held, Next};
+use intake::Next;
 use listing_turn::{Standing, Turned};
 use std::io::{Read, Write};
 
@@ -19,28 +19,6 @@ fn list_on(input: &mut [u8], output: &mut [u8], standing: Standing, turn: u64) -
     ensures { record { turned = result; input = input.new; output = output.new } ≡ turn_made standing input.old output.old }
 {
     listing_turn::turn(input, output, standing)
-}
-
-fn with_held(standing: Standing, held: Held) -> Standing
-    ensures { result ≡ with_held standing held }
-{
-    let bridge = standing.bridge;
-    Standing {
-        bridge,
-        count: standing.count,
-        bytes: standing.bytes,
-        held,
-    }
-}
-
-// Says which of the two failed, after how many records and bytes, and why.
-fn say_failed<E: Write>(stderr: &mut E, edge: Edge, records: u64, bytes: u64, error: i32) {
-    let failure = Failure {
-        edge,
-        records,
-        bytes,
-    };
-    console::tell_failure(stderr, failure, error);
 }
 
 // Turn after turn. A proved loop has to end, and nothing says that an input does: the turns are counted, up to a number
@@ -56,40 +34,41 @@ fn list_all<R: Read, W: Write, E: Write>(
     let mut standing = listing_turn::begin();
     let mut sent: u64 = 0;
     let mut error: i32 = 0;
-    let mut turn: u64 = 0;
-    while turn < u64::MAX {
+    for turn in 0..u64::MAX {
         let records = standing.count;
         let turned = list_on(input, output, standing, turn);
-        turn += 1;
         standing = turned.standing;
         let written = turned.written;
-        let out = console::write_through(stdout, &output[..written]);
-        sent = sent.wrapping_add(out.sent.count as u64);
-        if !out.sent.whole {
-            say_failed(stderr, Edge::Writing, records, sent, out.error);
+        if let Err(part) = console::write_out(stdout, &output[..written]) {
+            let failure = Failure {
+                edge: Edge::Writing,
+                records,
+                bytes: sent.wrapping_add(part.count as u64),
+            };
+            console::tell_failure(stderr, failure, part.error);
             return;
         }
-        let next = turned.next;
-        match next {
-            Next::GoesOn => {
-                continue;
-            }
+        sent = sent.wrapping_add(written as u64);
+        match turned.next {
+            Next::GoesOn => {}
             Next::Reads => {
                 let came = console::read_behind(stdin, input, standing.held);
-                standing = with_held(standing, came.held);
-                error = came.error;
-                continue;
+                standing = Standing {
+                    held: came.held,
+                    ..standing
+                };
+                error = came.got.err().unwrap_or(0);
             }
-            Next::Ends => {
-                return;
-            }
-            Next::Fails => {
-                say_failed(stderr, Edge::Reading, standing.count, standing.bytes, error);
-                return;
-            }
+            Next::Ends => return,
+            Next::Fails => break,
         }
     }
-    say_failed(stderr, Edge::Reading, standing.count, standing.bytes, error);
+    let failure = Failure {
+        edge: Edge::Reading,
+        records: standing.count,
+        bytes: standing.bytes,
+    };
+    console::tell_failure(stderr, failure, error);
 }
 
 fn main(rt: HostRuntime) {

@@ -18,7 +18,8 @@ use Rattle.records.specs.declared.Answer.{Answer}
 use Rattle.listing_text.specs.Places.{line_room, most_lines}
 use Rattle.listing_part.specs.Parts.{Part, may_go_on, going_on}
 use Rattle.listing_part.specs.Steps.{shown_of, frame_answer, next_step}
-use Rattle.listing_text.specs.declared.Shown.{Shown}
+use Rattle.std.specs.Prelude.{Option}
+use Rattle.quantity.specs.declared.Ticks.{Ticks}
 use Rattle.listing_part.specs.declared.Step.{Step}
 use Rattle.listing_part.specs.declared.Step.TheVariants.{Ends, Goes}
 
@@ -127,7 +128,7 @@ mark_letters (made.Frame i n A) = refl
 
 -- ---- answers
 
-pub shows : (a : Answer) (k : ℕ) (s : Shown) → k ≡ answer_number a → s ≡ shown_of a → record { number = k; time = s } ≡ frame_answer a
+pub shows : (a : Answer) (k : ℕ) (s : Option Ticks) → k ≡ answer_number a → s ≡ shown_of a → record { number = k; time = s } ≡ frame_answer a
 unfolding frame_answer
 shows a k s e f =
-    ap (λ (i : ℕ). record { number = i; time = s }) e ∙ ap (λ (t : Shown). record { number = answer_number a; time = t }) f
+    ap (λ (i : ℕ). record { number = i; time = s }) e ∙ ap (λ (t : Option Ticks). record { number = answer_number a; time = t }) f

@@ -1,6 +1,7 @@
 -- What the private steps give. No sentence of the document stands here.
 -- n is a count of lines, room the lent bytes that are left.
-use Rattle.std.specs.Prelude.{ℕ, cond}
+use Rattle.std.specs.Prelude.{ℕ, cond, Option, None, Some}
+use Rattle.quantity.specs.declared.Ticks.{Ticks}
 use Rattle.records.specs.Numbers.{answer_number}
 use Rattle.records.specs.declared.Answer.{Answer}
 use Rattle.records.specs.declared.Answer.TheVariants as answer
@@ -14,8 +15,6 @@ use Rattle.calls.specs.declared.Placed.{Placed}
 use Rattle.tablefile.specs.declared.Reading.{Reading}
 use Rattle.tablefile.specs.declared.Reading.TheVariants.{Found, NothingLeft, Refused}
 use Rattle.listing_text.specs.Lines.{values_of}
-use Rattle.listing_text.specs.declared.Shown.{Shown}
-use Rattle.listing_text.specs.declared.Shown.TheVariants.{Time, Dash}
 use Rattle.listing_text.specs.declared.Answered.{Answered}
 use Rattle.listing_part.specs.Parts.{may_go_on}
 use Rattle.listing_part.specs.declared.Step.{Step}
@@ -34,12 +33,12 @@ unfoldable pub reply_of : Answered → Reply
 reply_of a = record { number = a.number; values = values_of a.time }
 
 unfoldable pub set_up_answer : Result (Unit {0}) Refusal → Answered
-set_up_answer a = record { number = set_up_number a; time = Dash }
+set_up_answer a = record { number = set_up_number a; time = None }
 
-unfoldable pub shown_of : Answer → Shown
-shown_of (answer.Released T) = Time T
-shown_of (answer.Discarded T) = Time T
-shown_of (answer.Refused why) = Dash
+unfoldable pub shown_of : Answer → Option Ticks
+shown_of (answer.Released T) = Some T
+shown_of (answer.Discarded T) = Some T
+shown_of (answer.Refused why) = None
 
 unfoldable pub frame_answer : Answer → Answered
 frame_answer a = record { number = answer_number a; time = shown_of a }

@@ -10,7 +10,7 @@ ghost use Rattle.listing_part.specs.Parts.{part_listed};
 ghost use Rattle.listing_part.specs.Steps.{set_up_answer, frame_answer, next_step, stream_of, group_of, group_carried, stream_carried, frame_carried, carried_out};
 
 use bridge::Bridge;
-use listing_text::{Answered, Shown};
+use listing_text::Answered;
 use quantity::{Bits, Item, Rate, Refusal, Ticks};
 use records::{Answer, Group, Stream, WithRecords};
 use tablefile::{Reading, Record};
@@ -47,7 +47,7 @@ fn set_up_answer(answer: Result<(), Refusal>) -> Answered
 {
     Answered {
         number: calls::set_up_number(answer),
-        time: Shown::Dash,
+        time: None,
     }
 }
 
@@ -58,16 +58,13 @@ fn frame_answer(answer: Answer) -> Answered
     match answer {
         Answer::Released(time) => Answered {
             number,
-            time: Shown::Time(time),
+            time: Some(time),
         },
         Answer::Discarded(time) => Answered {
             number,
-            time: Shown::Time(time),
+            time: Some(time),
         },
-        Answer::Refused(_) => Answered {
-            number,
-            time: Shown::Dash,
-        },
+        Answer::Refused(_) => Answered { number, time: None },
     }
 }
 

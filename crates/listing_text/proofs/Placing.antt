@@ -2,26 +2,16 @@
 use mathlib.Core.Path.{◌≡◌, refl, sym, ap, ◌∙◌}
 use mathlib.Core.Bool.{Bool, true, false}
 use mathlib.Core.List.{List, [], ◌∷◌}
-use Prim.Native.Nat.{ℕ, ◌+◌, ◌-◌, ◌≤◌}
-use native.Mathlib.Omega.{arith}
-use lib.Dec.{leb}
+use Prim.Native.Nat.{ℕ, ◌+◌, ◌≤◌}
 use lib.ListN.{length, get_or}
 use lib.Seq.{sets, length-sets}
-use borrow.Author.Tests.{leb-true, leb-false, le-leb, lt-leb}
+use borrow.Author.Tests.{le-leb}
 use Rattle.quantity.proofs.Booleans.{cond_true, cond_false}
 use Rattle.text.specs.Places.{Placed}
 use Rattle.listing_text.specs.Lines.{values_of, line_of}
 use Rattle.listing_text.specs.Places.{line_room, put_where, line_put}
 use Rattle.listing_text.specs.Steps.{Put}
 use Rattle.listing_text.specs.declared.Answered.{Answered}
-
--- so much room is behind a place
-pub room_behind : (len at room : ℕ) → at ≤ len → leb room (len - at) ≡ leb (at + room) len
-room_behind len at room h = go (leb (at + room) len) refl
-  where
-    go : (t : Bool) → leb (at + room) len ≡ t → leb room (len - at) ≡ t
-    go true e = le-leb room (len - at) (omega (arith, leb-true (at + room) len e))
-    go false e = lt-leb room (len - at) (omega (arith, leb-false (at + room) len e))
 
 module _ {may : Bool} (l : List ℕ) (at : ℕ) (ts : List ℕ) where
   was_put : may ≡ true → put_where may l at ts ≡ record { next = at + length ts; bytes = sets l at ts }

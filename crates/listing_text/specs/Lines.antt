@@ -1,10 +1,9 @@
 -- Document 01, 'The table file': the lines of the listing.
 -- n is the number of a line or a count of lines, e the number that ended the reading, T an eligibility time; a text is a list of characters.
-use Rattle.std.specs.Prelude.{ℕ, ◌+◌, cond, List, [], ◌∷◌, ◌++◌, ltb}
+use Rattle.std.specs.Prelude.{ℕ, ◌+◌, cond, List, [], ◌∷◌, ◌++◌, Option, None, Some, ltb}
 use Rattle.quantity.specs.Numbers.{least_refusal}
 use Rattle.text.specs.Decimal.{decimal}
-use Rattle.listing_text.specs.declared.Shown.{Shown}
-use Rattle.listing_text.specs.declared.Shown.TheVariants.{Time, Dash}
+use Rattle.quantity.specs.declared.Ticks.{Ticks}
 
 abbrev pub space : ℕ
 space = 32
@@ -18,9 +17,9 @@ newline = 10
 -- ---- a line
 
 -- what the last column shows: T, or nothing
-unfoldable pub values_of : Shown → List ℕ
-values_of (Time T) = T.0 ∷ []
-values_of Dash = []
+unfoldable pub values_of : Option Ticks → List ℕ
+values_of (Some T) = T.0 ∷ []
+values_of None = []
 
 -- T, or `-` where there is none
 unfoldable pub column : List ℕ → List ℕ

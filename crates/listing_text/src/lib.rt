@@ -2,7 +2,7 @@
 // Decimal numbers are `text`'s; which answer a line shows is `listing_part`'s.
 #![tactic(auto)]
 
-ghost use Rattle.std.specs.Prelude.{◌≡◌, [], ◌∷◌, ◌++◌, ◌+◌, ◌≤◌, ◌<◌, leb, length, get_or};
+ghost use Rattle.std.specs.Prelude.{◌≡◌, [], ◌∷◌, ◌++◌, ◌+◌, ◌≤◌, ◌<◌, length, get_or};
 ghost use Rattle.quantity.specs.Numbers.{number_of};
 ghost use Rattle.text.specs.Decimal.{decimal};
 ghost use Rattle.listing_text.specs.Lines.{space, newline, values_of, column, end_line, ending};
@@ -19,30 +19,13 @@ pub const LINE_ROOM: usize = 49;
 pub const END_ROOM: usize = 25;
 
 // The lines are counted up to this one.
-pub const MOST_LINES: u64 = 18_446_744_073_709_551_615;
-
-// The last column of a line.
-#[derive(Clone, Copy, Drop)]
-pub enum Shown {
-    Time(Ticks),
-    Dash,
-}
+pub const MOST_LINES: u64 = u64::MAX;
 
 // What a line shows of a call: document 01's number, and T where there is one.
 #[derive(Clone, Copy, Drop)]
 pub struct Answered {
     pub number: u8,
-    pub time: Shown,
-}
-
-// Whether so many bytes, from a place on, have so much room.
-fn has_room(len: usize, at: usize, room: usize) -> bool
-    ensures { result ≡ leb (at + room) len }
-{
-    if len < at {
-        return false;
-    }
-    room <= len - at
+    pub time: Option<Ticks>,
 }
 
 // ---- a line
@@ -53,21 +36,19 @@ fn put_head(out: &mut [u8], at: usize, number: u64, letters: [u8; 2]) -> usize
     ensures { Put out.old at (decimal number ++ (space ∷ get_or letters 0 0 ∷ get_or letters 1 0 ∷ space ∷ [])) result out.new }
 {
     let after = text::put_decimal(out, at, number);
-    out[after] = b' ';
-    out[after + 1] = letters[0];
-    out[after + 2] = letters[1];
-    out[after + 3] = b' ';
-    after + 4
+    let end = after + 4;
+    out[after..end].copy_from_slice(&[b' ', letters[0], letters[1], b' ']);
+    end
 }
 
 // The last column.
-fn put_shown(out: &mut [u8], at: usize, time: Shown) -> usize
+fn put_shown(out: &mut [u8], at: usize, time: Option<Ticks>) -> usize
     requires { at + most_digits ≤ length out.old }
     ensures { Put out.old at (column (values_of time)) result out.new }
 {
     match time {
-        Shown::Time(ticks) => text::put_decimal(out, at, ticks.0),
-        Shown::Dash => {
+        Some(ticks) => text::put_decimal(out, at, ticks.0),
+        None => {
             out[at] = b'-';
             at + 1
         }
@@ -87,7 +68,7 @@ fn put_number(out: &mut [u8], at: usize, number: u8) -> usize
 }
 
 // The number returned and the last column, to the line's end.
-fn put_tail(out: &mut [u8], at: usize, number: u8, time: Shown) -> usize
+fn put_tail(out: &mut [u8], at: usize, number: u8, time: Option<Ticks>) -> usize
     requires { at + tail_room ≤ length out.old }
     ensures { Put out.old at (decimal number ++ (space ∷ (column (values_of time) ++ (newline ∷ [])))) result out.new }
 {
@@ -102,7 +83,7 @@ fn put_tail(out: &mut [u8], at: usize, number: u8, time: Shown) -> usize
 pub fn put_line(out: &mut [u8], at: usize, number: u64, letters: [u8; 2], answer: Answered) -> usize
     ensures { record { next = result; bytes = out.new } ≡ line_put out.old at number letters answer }
 {
-    if !has_room(out.len(), at, LINE_ROOM) {
+    if !text::has_room(out.len(), at, LINE_ROOM) {
         return at;
     }
     let returned = answer.number;
@@ -118,11 +99,9 @@ fn put_count(out: &mut [u8], at: usize, count: u64) -> usize
     requires { at + end_room ≤ length out.old }
     ensures { Put out.old at (end_line count) result out.new }
 {
-    out[at] = b'e';
-    out[at + 1] = b'n';
-    out[at + 2] = b'd';
-    out[at + 3] = b' ';
-    let last = text::put_decimal(out, at + 4, count);
+    let after = at + 4;
+    out[at..after].copy_from_slice(b"end ");
+    let last = text::put_decimal(out, after, count);
     out[last] = b'\n';
     last + 1
 }
@@ -134,7 +113,7 @@ fn put_refused(out: &mut [u8], at: usize, count: u64, why: Refusal) -> usize
 {
     let answer = Answered {
         number: quantity::refusal_number(why),
-        time: Shown::Dash,
+        time: None,
     };
     let last = put_line(out, at, count + 1, [b'-', b'-'], answer);
     put_count(out, last, count + 1)
@@ -145,7 +124,7 @@ fn put_refused(out: &mut [u8], at: usize, count: u64, why: Refusal) -> usize
 pub fn put_end(out: &mut [u8], at: usize, count: u64, reading: Reading) -> usize
     ensures { record { next = result; bytes = out.new } ≡ end_put out.old at count reading }
 {
-    if !has_room(out.len(), at, LINE_ROOM + END_ROOM) {
+    if !text::has_room(out.len(), at, LINE_ROOM + END_ROOM) {
         return at;
     }
     if count >= MOST_LINES {

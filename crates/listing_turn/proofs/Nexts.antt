@@ -1,11 +1,8 @@
--- Laws of what comes next: one for each return. Assumes nothing.
-use Rattle.std.proofs.Common.{◌≡◌, ℕ, ◌+◌, ◌<◌, ◌≤◌, Bool, true, false, cond, ◌&&◌, eqb, ltb, leb, sym, refl, ap, ◌∙◌, le-ltb, lt-ltb, eq-eqb, ne_eqb, le-leb}
-use borrow.Author.Tests.{lt-leb}
+-- Laws of what comes next: where a listing ends, its end has room. Assumes nothing.
+use Rattle.std.proofs.Common.{◌≡◌, ℕ, Bool, true, false, cond, eqb, ltb, refl}
 use Rattle.listing_text.specs.Places.{most_lines, may_end}
-use Rattle.intake.specs.declared.Next.{Next}
 use Rattle.intake.specs.declared.Next.TheVariants.{GoesOn, Ends, Fails}
 use Rattle.quantity.specs.Numbers.{number_of}
-use Rattle.quantity.specs.declared.Refusal.{Refusal}
 use Rattle.quantity.specs.declared.Refusal.TheVariants.{CutShort}
 use Rattle.tablefile.specs.declared.Reading.{Reading}
 use Rattle.tablefile.specs.declared.Reading.TheVariants.{Found, NothingLeft, Refused}
@@ -13,54 +10,6 @@ use Rattle.intake.specs.declared.Told.{Told}
 use Rattle.intake.specs.declared.Told.TheVariants.{More, Ended, Failed}
 use Rattle.intake.proofs.Promises.{no_end}
 use Rattle.listing_turn.specs.Turns.{unended, closing, at_edge, next_of}
-
-pub counted : (n : ℕ) → n < most_lines → GoesOn ≡ unended n
-unfolding unended
-counted n h = sym (ap (λ (t : Bool). cond t GoesOn Fails) (lt-ltb n most_lines h))
-
-pub uncounted : (n : ℕ) → most_lines ≤ n → Fails ≡ unended n
-unfolding unended
-uncounted n h = sym (ap (λ (t : Bool). cond t GoesOn Fails) (le-ltb n most_lines h))
-
--- where the end has room and a line more can be counted; by the two tests
-choice : Bool → Bool → Next
-choice room counts = cond (room && counts) Ends (cond counts GoesOn Fails)
-
-chosen : (n at size : ℕ) (room counts : Bool) → leb (at + 74) size ≡ room → ltb n most_lines ≡ counts → closing n at size ≡ choice room counts
-unfolding closing unended may_end choice
-chosen n at size room counts e f = rw (e, f)
-
-full : (room : Bool) → Fails ≡ choice room false
-unfolding choice
-full true = refl
-full false = refl
-
-pub closes_full : (n at size : ℕ) → most_lines ≤ n → Fails ≡ closing n at size
-closes_full n at size h = full (leb (at + 74) size) ∙ sym (chosen n at size (leb (at + 74) size) false refl (le-ltb n most_lines h))
-
-pub closes_later : (n at size : ℕ) → n < most_lines → size < at + 74 → GoesOn ≡ closing n at size
-unfolding choice
-closes_later n at size h k = sym (chosen n at size false true (lt-leb (at + 74) size k) (lt-ltb n most_lines h))
-
-pub closes_now : (n at size : ℕ) → n < most_lines → at + 74 ≤ size → Ends ≡ closing n at size
-unfolding choice
-closes_now n at size h k = sym (chosen n at size true true (le-leb (at + 74) size k) (lt-ltb n most_lines h))
-
--- a refusal, by its number
-module _ (x : Reading) (why : Refusal) (told : Told) (n at size a b : ℕ) (e : x ≡ Refused why) (f : a ≡ number_of why) (g : b ≡ number_of CutShort) where
-  pub cut_off : a ≡ b → at_edge told n at size ≡ next_of x told n at size
-  unfolding next_of
-  cut_off q =
-      sym
-      (ap (λ (y : Reading). next_of y told n at size) e
-      ∙ ap (λ (t : Bool). cond t (at_edge told n at size) (closing n at size)) (eq-eqb (number_of why) (number_of CutShort) (sym f ∙ q ∙ g)))
-
-  pub no_mark : (a ≡ b → ⊥) → closing n at size ≡ next_of x told n at size
-  unfolding next_of
-  no_mark q =
-      sym
-      (ap (λ (y : Reading). next_of y told n at size) e
-      ∙ ap (λ (t : Bool). cond t (at_edge told n at size) (closing n at size)) (ne_eqb (number_of why) (number_of CutShort) (λ z. q (f ∙ z ∙ sym g))))
 
 -- ---- where it ends, the end has room and a line more can be counted
 

@@ -41,5 +41,5 @@ turn_stands x input output n w may =
 
 pub reading_stands : ReadingStands
 unfolding MayList with_held reached_by
-reading_stands room n x input w may got waits after same =
-    sessions.reading_stands Reached (list_turn room) start n (reached_by x) x.held input w may got waits after same
+reading_stands room n x input w may got after same =
+    sessions.reading_stands Reached (list_turn room) start n (reached_by x) x.held input w may got after same

@@ -1,7 +1,7 @@
 -- Document 01, 'The table file': what a session of turns of the listing writes.
 -- Each statement has a name here, and its proof under the same name in the file Promises of proofs/.
 use Prim.{Unit, tt}
-use Rattle.std.specs.Prelude.{◌≡◌, ℕ, suc, ◌+◌, ◌<◌, ◌≤◌, Bool, List, ◌++◌, length, take, drop, ℤ, ◌≢◌}
+use Rattle.std.specs.Prelude.{◌≡◌, ℕ, suc, ◌+◌, ◌<◌, ◌≤◌, List, ◌++◌, Result, length, take, drop, ◌≢◌}
 use Rattle.tablefile.specs.BigEndian.{AreBytes}
 use Rattle.tablefile.specs.Layout.{ST, size}
 use Rattle.listing_text.specs.Places.{line_room, end_room, most_lines}
@@ -10,6 +10,7 @@ use Rattle.intake.specs.Holding.{Within, held_in, came_in}
 use Rattle.intake.specs.Sessions.{Input, bytes_of, readings, EndsWell, Outcome, session_of, MayTurn, MayRead, HasEnded}
 use Rattle.intake.specs.Promises.{Given, Right, Moves}
 use Rattle.intake.specs.declared.Told.{Told}
+use Rattle.intake.specs.declared.Unread.{Unread}
 use Rattle.intake.specs.declared.Next.{Next}
 use Rattle.intake.specs.declared.Next.TheVariants.{GoesOn, Reads, Ends}
 use Rattle.listing_turn.specs.Turns.{Reached, start, list_turn, begun_listing, reached_by, with_held, turn_made}
@@ -125,5 +126,5 @@ TurnStands =
 abbrev pub ReadingStands : Type 0
 ReadingStands =
     (room n : ℕ) (x : Standing) (input : List ℕ) → Within x.held (length input) → MayRead (list_turn room) start n (reached_by x) (held_in x.held input)
-    → (got : ℤ) (waits : Bool) (after : List ℕ) → take x.held.filled after ≡ take x.held.filled input
-    → MayList room (suc n) (with_held x (came_in x.held got waits (length input))) after
+    → (got : Result ℕ Unread) (after : List ℕ) → take x.held.filled after ≡ take x.held.filled input
+    → MayList room (suc n) (with_held x (came_in x.held got (length input))) after

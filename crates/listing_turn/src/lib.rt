@@ -32,48 +32,49 @@ pub struct Turned {
 }
 
 // Nothing was listed yet.
+#[tactic(auto, unfolding(crate::specs::Turns::begun_listing))]
 pub fn begin() -> Standing
     ensures { result ≡ begun_listing }
 {
-    let bridge = bridge::fresh();
-    let held = intake::nothing();
     Standing {
-        bridge,
+        bridge: bridge::fresh(),
         count: 0,
         bytes: 0,
-        held,
+        held: Held::nothing(),
     }
 }
 
 // ---- what comes next
 
 // Where the listing has not ended: a line more, where it can be counted.
+#[tactic(auto, unfolding(crate::specs::Turns::unended))]
 fn unended_next(count: u64) -> Next
     ensures { result ≡ unended count }
 {
     if count < listing_text::MOST_LINES {
-        return Next::GoesOn;
+        Next::GoesOn
+    } else {
+        Next::Fails
     }
-    Next::Fails
 }
 
 // Where the listing ends: now, if its end has room behind so many bytes.
+#[tactic(auto, unfolding(crate::specs::Turns::closing, crate::specs::Turns::unended, listing_text::specs::Places::may_end))]
 fn closing_next(count: u64, at: usize, size: usize) -> Next
     ensures { result ≡ closing count at size }
 {
     if count >= listing_text::MOST_LINES {
         return Next::Fails;
     }
-    if size < listing_text::LINE_ROOM + listing_text::END_ROOM {
-        return Next::GoesOn;
+    if text::has_room(size, at, listing_text::LINE_ROOM + listing_text::END_ROOM) {
+        Next::Ends
+    } else {
+        Next::GoesOn
     }
-    if at <= size - (listing_text::LINE_ROOM + listing_text::END_ROOM) {
-        return Next::Ends;
-    }
-    Next::GoesOn
 }
 
 // Where the bytes that are held end before a whole record.
+#[tactic(auto, unfolding(crate::specs::Turns::at_edge))]
 fn edge_next(told: Told, count: u64, at: usize, size: usize) -> Next
     ensures { result ≡ at_edge told count at size }
 {
@@ -85,32 +86,28 @@ fn edge_next(told: Told, count: u64, at: usize, size: usize) -> Next
 }
 
 // By what the reader gave where the lines stopped.
+#[tactic(auto, unfolding(crate::specs::Turns::next_of))]
 fn next_of(reading: Reading, told: Told, count: u64, at: usize, size: usize) -> Next
     ensures { result ≡ next_of reading told count at size }
 {
     match reading {
         Reading::Found { .. } => unended_next(count),
         Reading::NothingLeft => edge_next(told, count, at, size),
-        Reading::Refused(why) => {
-            if quantity::refusal_number(why) == quantity::refusal_number(Refusal::CutShort) {
-                return edge_next(told, count, at, size);
-            }
-            closing_next(count, at, size)
-        }
+        Reading::Refused(Refusal::CutShort) => edge_next(told, count, at, size),
+        Reading::Refused(_) => closing_next(count, at, size),
     }
 }
 
 // ---- the turn
 
 // Puts what ends the listing at a place, where it ends.
+#[tactic(auto, unfolding(crate::specs::Turns::end_put_if))]
 fn put_end_if(output: &mut [u8], at: usize, count: u64, reading: Reading, next: Next) -> usize
     ensures { record { next = result; bytes = output.new } ≡ end_put_if next output.old at count reading }
 {
     match next {
-        Next::GoesOn => at,
-        Next::Reads => at,
         Next::Ends => listing_text::put_end(output, at, count, reading),
-        Next::Fails => at,
+        Next::GoesOn | Next::Reads | Next::Fails => at,
     }
 }
 
@@ -120,30 +117,27 @@ fn list_held(input: &mut [u8], output: &mut [u8], standing: Standing) -> Turned
     ensures { record { turned = result; input = input.new; output = output.new } ≡ held_listed standing input.old output.old }
 {
     let held = standing.held;
-    let place = held.place;
-    let filled = held.filled;
-    let told = held.told;
-    let before = standing.bridge;
-    let listed = listing_part::list_part(&input[place..filled], before, standing.count, output);
-    let bridge = listed.bridge;
+    let listed = listing_part::list_part(
+        &input[held.place..held.filled],
+        standing.bridge,
+        standing.count,
+        output,
+    );
     let count = listed.count;
     let reading = listed.reading;
     let at = listed.written;
-    let bytes = std::num::wrapping_add_u64(standing.bytes, listed.place as u64);
-    let left = Held {
-        place: place + listed.place,
-        filled,
-        told,
-    };
-    let next = next_of(reading, told, count, at, output.len());
+    let next = next_of(reading, held.told, count, at, output.len());
     let written = put_end_if(output, at, count, reading, next);
-    let kept = intake::keep_for(input, left, next);
+    let left = Held {
+        place: held.place + listed.place,
+        ..held
+    };
     Turned {
         standing: Standing {
-            bridge,
+            bridge: listed.bridge,
             count,
-            bytes,
-            held: kept,
+            bytes: standing.bytes.wrapping_add(listed.place as u64),
+            held: left.keep_for(input, next),
         },
         written,
         next,
@@ -154,7 +148,7 @@ fn list_held(input: &mut [u8], output: &mut [u8], standing: Standing) -> Turned
 pub fn turn(input: &mut [u8], output: &mut [u8], standing: Standing) -> Turned
     ensures { record { turned = result; input = input.new; output = output.new } ≡ turn_made standing input.old output.old }
 {
-    if !intake::is_within(standing.held, input.len()) {
+    if !standing.held.is_within(input.len()) {
         return Turned {
             standing,
             written: 0,

@@ -4,7 +4,7 @@ use Rattle.intake.specs.Holding.{Within, nothing_held, came_in}
 use Rattle.intake.specs.declared.Held.{Held}
 use Rattle.intake.specs.declared.Next.TheVariants.{GoesOn, Reads}
 use Rattle.intake.proofs.Promises.{reading_within}
-use Rattle.console.specs.Answers.{only_waits, read_behind}
+use Rattle.console.specs.Answers.{brought, read_behind}
 use Rattle.console.specs.declared.Came.{Came}
 use Rattle.console.proofs.Answers.{read_gave}
 use Rattle.replay_text.specs.Lines.{line_room}
@@ -91,23 +91,23 @@ module _ (i₀ n₀ : List ℕ) (r : Turned) (k : ℕ) (i n a d o : List ℕ) (t
 
   -- or reads
   pub reads_on : r.next ≡ Reads → (c : Came) (x : Standing) (i₂ : List ℕ) → length i₂ ≡ length i
-      → record { came = c; bytes = i₂ } ≡ read_behind r.standing.held i c.got c.error i₂
+      → record { came = c; bytes = i₂ } ≡ read_behind r.standing.held i c.got i₂
       → x ≡ with_held r.standing c.held
       → Rolling i₀ n₀ x (k + 1) i₂ n a d o
   unfolding with_held
   reads_on q c x i₂ same e f =
       let h = r.standing.held in
       let g = read_gave h i c i₂ t.within.inside e in
-      let came = came_in h c.got (only_waits c.error) (length i) in
+      let came = came_in h (brought c.got) (length i) in
       let is : x ≡ with_held r.standing came = f ∙ ap (with_held r.standing) g.0 in
       let held : x.held ≡ came = ap (λ (y : Standing). y.held) is in
       let count : x.count ≡ r.standing.count = ap (λ (y : Standing). y.count) is in
       record {
-        within = subst (λ (m : ℕ). Within x.held m) (sym same) (subst (λ (y : Held). Within y (length i)) (sym held) (reading_within h c.got (only_waits c.error) (length i) t.within));
+        within = subst (λ (m : ℕ). Within x.held m) (sym same) (subst (λ (y : Held). Within y (length i)) (sym held) (reading_within h (brought c.got) (length i) t.within));
         may =
             subst (λ (m : ℕ). MayGather places m x i₂ a d o) (sym (add-one k))
             (subst (λ (y : Standing). MayGather places (suc k) y i₂ a d o) (sym is)
-            (reading_stands places k r.standing i a d o t.within (t.ahead.reads q) c.got (only_waits c.error) i₂ g.1));
+            (reading_stands places k r.standing i a d o t.within (t.ahead.reads q) (brought c.got) i₂ g.1));
         few = omega (arith, t.few, count);
         lent = record { long = same ∙ t.lent.long; wide = t.lent.wide; room = t.lent.room; lists = t.lent.lists };
       }

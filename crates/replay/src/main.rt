@@ -9,20 +9,19 @@ ghost use Rattle.std.specs.Prelude.{◌≡◌, ◌≤◌, true, false, length};
 ghost use Rattle.intake.specs.Holding.{Within};
 ghost use Rattle.replay_text.specs.Lines.{line_room, text_of};
 ghost use Rattle.replay_turn.specs.Turns.{turn_made};
-ghost use Rattle.replay_turn.specs.Protocol.{Places, MayGather, HasGathered, with_held};
+ghost use Rattle.replay_turn.specs.Protocol.{Places, MayGather, HasGathered};
 ghost use Rattle.replay_account.specs.Account.{lines_of, part_put};
 ghost use Rattle.replay_account.specs.Promises.{MayTell};
 ghost use Rattle.replay.specs.Replaying.{Replayed};
 
 use console::{Edge, Failure};
-use intake::{Held, Next};
+use intake::Next;
 use line::Ran;
 use quantity::{Rate, Ticks};
 use replay_account::{Account, Part};
 use replay_turn::{Standing, Turned};
 use std::env::{Env, FillError};
 use std::io::{Read, Write};
-use text::Numeral;
 
 // The places of each list: as many as a run takes.
 const PLACES: usize = quantity::MOST_LIST_PLACES as usize;
@@ -33,50 +32,17 @@ const EVENT_BUDGET: u64 = 2 * quantity::MOST_LIST_PLACES;
 // An argument is shorter: Linux takes none that is longer.
 const ARGUMENT_BYTES: usize = 131_072;
 
-// ---- fresh lists. Each is a function's result, so that what uses it knows its length without unfolding its places.
-
-fn argument_bytes() -> [u8; ARGUMENT_BYTES] {
-    [0; ARGUMENT_BYTES]
-}
-
-fn list_of_u8() -> [u8; PLACES]
-    ensures { 65536 ≡ length result }
+// A fresh list. It is a function's result, so that what uses it knows its length without unfolding its places.
+fn list_of<T: Copy, const N: usize>(zero: T) -> [T; N]
+    ensures { N ≡ length result }
 {
-    [0; PLACES]
-}
-
-fn list_of_u16() -> [u16; PLACES]
-    ensures { 65536 ≡ length result }
-{
-    [0; PLACES]
-}
-
-fn list_of_u32() -> [u32; PLACES]
-    ensures { 65536 ≡ length result }
-{
-    [0; PLACES]
-}
-
-fn list_of_u64() -> [u64; PLACES]
-    ensures { 65536 ≡ length result }
-{
-    [0; PLACES]
+    [zero; N]
 }
 
 // ---- what goes to standard error
 
 fn say<E: Write>(stderr: &mut E, line: &[u8]) {
-    console::write_out(stderr, line);
-}
-
-// Says which of the two failed, after how many records and bytes, and why.
-fn say_failed<E: Write>(stderr: &mut E, edge: Edge, records: u64, bytes: u64, error: i32) {
-    let failure = Failure {
-        edge,
-        records,
-        bytes,
-    };
-    console::tell_failure(stderr, failure, error);
+    let _ = console::write_out(stderr, line);
 }
 
 // ---- the arguments
@@ -84,11 +50,7 @@ fn say_failed<E: Write>(stderr: &mut E, edge: Edge, records: u64, bytes: u64, er
 // Whether there is an argument of this number.
 fn has_argument(rt: &impl Env, i: usize) -> bool {
     let mut byte = [0u8; 1];
-    match rt.arg(i, &mut byte) {
-        Ok(_) => true,
-        Err(FillError::TooLong) => true,
-        Err(FillError::NotPresent) => false,
-    }
+    !matches!(rt.arg(i, &mut byte), Err(FillError::NotPresent))
 }
 
 // How many arguments there are, the program's name among them, and 4 where there are more.
@@ -101,12 +63,12 @@ fn argument_count(rt: &impl Env) -> usize {
     4
 }
 
-// The number that an argument is.
-fn argument(rt: &impl Env, i: usize) -> Numeral {
-    let mut buf = argument_bytes();
+// The number that an argument is, if it is one.
+fn argument(rt: &impl Env, i: usize) -> Option<u64> {
+    let mut buf = list_of::<u8, ARGUMENT_BYTES>(0);
     match rt.arg(i, &mut buf) {
         Ok(length) => text::number_in(&buf[..length]),
-        Err(_) => text::number_in(b""),
+        Err(_) => None,
     }
 }
 
@@ -129,33 +91,20 @@ fn gather_on(
     replay_turn::turn(input, notes, arrivals, ids, octets, standing)
 }
 
-fn with_held(standing: Standing, held: Held) -> Standing
-    ensures { result ≡ with_held standing held }
-{
-    let bridge = standing.bridge;
-    Standing {
-        bridge,
-        records: standing.records,
-        bytes: standing.bytes,
-        count: standing.count,
-        whole: standing.whole,
-        held,
-    }
-}
-
-// A reading that did not come to its end: nothing is to be run.
-fn unended(standing: Standing) -> Standing
+// Says that a reading did not come to its end, and gives where it stands: nothing is to be run.
+fn unended<E: Write>(stderr: &mut E, standing: Standing, error: i32) -> Standing
     ensures { (result.whole ≡ false) × (result.count ≡ 0) }
 {
-    let bridge = standing.bridge;
-    let held = standing.held;
-    Standing {
-        bridge,
+    let failure = Failure {
+        edge: Edge::Reading,
         records: standing.records,
         bytes: standing.bytes,
+    };
+    console::tell_failure(stderr, failure, error);
+    Standing {
         count: 0,
         whole: false,
-        held,
+        ..standing
     }
 }
 
@@ -176,47 +125,26 @@ fn read_table<R: Read, E: Write>(
 {
     let mut standing = replay_turn::begin();
     let mut error: i32 = 0;
-    let mut turn: u64 = 0;
-    while turn < u64::MAX {
+    for turn in 0..u64::MAX {
         let turned = gather_on(input, notes, arrivals, ids, octets, standing, turn);
-        turn += 1;
         standing = turned.standing;
         let written = turned.written;
-        console::write_out(stderr, &notes[..written]);
-        let next = turned.next;
-        match next {
-            Next::GoesOn => {
-                continue;
-            }
+        let _ = console::write_out(stderr, &notes[..written]);
+        match turned.next {
+            Next::GoesOn => {}
             Next::Reads => {
                 let came = console::read_behind(stdin, input, standing.held);
-                standing = with_held(standing, came.held);
-                error = came.error;
-                continue;
+                standing = Standing {
+                    held: came.held,
+                    ..standing
+                };
+                error = came.got.err().unwrap_or(0);
             }
-            Next::Ends => {
-                return standing;
-            }
-            Next::Fails => {
-                say_failed(
-                    stderr,
-                    Edge::Reading,
-                    standing.records,
-                    standing.bytes,
-                    error,
-                );
-                return unended(standing);
-            }
+            Next::Ends => return standing,
+            Next::Fails => return unended(stderr, standing, error),
         }
     }
-    say_failed(
-        stderr,
-        Edge::Reading,
-        standing.records,
-        standing.bytes,
-        error,
-    );
-    unended(standing)
+    unended(stderr, standing, error)
 }
 
 // ---- standard output
@@ -238,6 +166,16 @@ fn tell_on(
     replay_account::put_part(out, account, answers, picked, moments, from)
 }
 
+// Says that a writing failed, of so many records and after so many bytes.
+fn unwritten<E: Write>(stderr: &mut E, records: u64, bytes: u64, error: i32) {
+    let failure = Failure {
+        edge: Edge::Writing,
+        records,
+        bytes,
+    };
+    console::tell_failure(stderr, failure, error);
+}
+
 // Writes an account, part after part. Of a writing that fails, the records are those that were read, and the bytes those
 // written.
 fn print_account<W: Write, E: Write>(
@@ -254,33 +192,22 @@ fn print_account<W: Write, E: Write>(
 {
     let mut from: usize = 0;
     let mut sent: u64 = 0;
-    let mut turn: u64 = 0;
-    while turn < u64::MAX {
+    for turn in 0..u64::MAX {
         let part = tell_on(out, account, answers, picked, moments, from, turn);
-        turn += 1;
         from = part.line;
         let written = part.written;
-        let wrote = console::write_through(stdout, &out[..written]);
-        sent = sent.wrapping_add(wrote.sent.count as u64);
-        if !wrote.sent.whole {
-            say_failed(stderr, Edge::Writing, records, sent, wrote.error);
+        if let Err(rest) = console::write_out(stdout, &out[..written]) {
+            let bytes = sent.wrapping_add(rest.count as u64);
+            unwritten(stderr, records, bytes, rest.error);
             return;
         }
-        let next = part.next;
-        match next {
-            Next::GoesOn => {
-                continue;
-            }
-            Next::Ends => {
-                return;
-            }
+        sent = sent.wrapping_add(written as u64);
+        match part.next {
+            Next::GoesOn => {}
+            Next::Ends => return,
             // An account asks for no input, and a buffer of this size has room for a line.
-            Next::Reads => {
-                say_failed(stderr, Edge::Writing, records, sent, wrote.error);
-                return;
-            }
-            Next::Fails => {
-                say_failed(stderr, Edge::Writing, records, sent, wrote.error);
+            Next::Reads | Next::Fails => {
+                unwritten(stderr, records, sent, 0);
                 return;
             }
         }
@@ -324,9 +251,9 @@ fn run_table<W: Write, E: Write>(
 {
     let bridge = standing.bridge;
     let count = standing.count;
-    let mut answers = list_of_u8();
-    let mut picked = list_of_u32();
-    let mut moments = list_of_u64();
+    let mut answers = list_of::<u8, PLACES>(0);
+    let mut picked = list_of::<u32, PLACES>(0);
+    let mut moments = list_of::<u64, PLACES>(0);
     let ran = line::run(
         bridge,
         waiting::empty(),
@@ -360,9 +287,9 @@ fn replay<R: Read, W: Write, E: Write>(
     rate: Rate,
     free: Ticks,
 ) {
-    let mut arrivals = list_of_u64();
-    let mut ids = list_of_u8();
-    let mut octets = list_of_u16();
+    let mut arrivals = list_of::<u64, PLACES>(0);
+    let mut ids = list_of::<u8, PLACES>(0);
+    let mut octets = list_of::<u16, PLACES>(0);
     let mut input = console::large_buffer();
     let mut notes = console::buffer();
     let standing = read_table(
@@ -386,14 +313,14 @@ fn replay_with<R: Read, W: Write, E: Write>(
     stdin: &mut R,
     stdout: &mut W,
     stderr: &mut E,
-    rate: Numeral,
-    free: Numeral,
+    rate: Option<u64>,
+    free: Option<u64>,
 ) {
-    let Numeral::Is(rate) = rate else {
+    let Some(rate) = rate else {
         say(stderr, b"replay: the line rate is no number\n");
         return;
     };
-    let Numeral::Is(free) = free else {
+    let Some(free) = free else {
         say(stderr, b"replay: line-free is no number\n");
         return;
     };
@@ -411,7 +338,7 @@ fn main(rt: HostRuntime) {
             &mut stdout,
             &mut stderr,
             argument(&rt, 1),
-            Numeral::Is(0),
+            Some(0),
         ),
         3 => replay_with(
             &mut stdin,

@@ -44,14 +44,13 @@ pub fn account_of(ran: Ran) -> Account
             last: Line::Refused(number),
         };
     }
-    let free = ran.free;
     Account {
         frames: ran.next,
         picks: ran.picks,
         last: Line::Stop {
             number,
             next: ran.next as u64,
-            free,
+            free: ran.free,
             events: ran.events,
             picks: ran.picks as u64,
         },
@@ -61,14 +60,14 @@ pub fn account_of(ran: Ran) -> Account
 // ---- the lines, by their numbers
 
 // The same account, with no more frames and picks than the lists hold.
+#[tactic(auto, unfolding(crate::specs::Steps::shown_of))]
 fn shown(account: Account, answers: usize, picked: usize, moments: usize) -> Account
     ensures { result ≡ shown_of account answers picked moments }
 {
-    let last = account.last;
     Account {
         frames: account.frames.min(answers),
         picks: account.picks.min(picked).min(moments),
-        last,
+        ..account
     }
 }
 
@@ -100,23 +99,21 @@ fn line_at(account: Account, answers: &[u8], picked: &[u32], moments: &[u64], k:
 fn goes_on(k: usize, lines: usize, room: usize) -> bool
     ensures { result ≡ ltb k lines && leb line_room room }
 {
-    if k < lines {
-        return replay_text::LINE_ROOM <= room;
-    }
-    false
+    k < lines && replay_text::LINE_ROOM <= room
 }
 
 // What comes after the lines from the one number up to the other. None where there is some is for want of room.
+#[tactic(auto, unfolding(crate::specs::Steps::next_after))]
 fn next_after(from: usize, k: usize, lines: usize) -> Next
     ensures { result ≡ next_after from k lines }
 {
     if lines <= k {
-        return Next::Ends;
+        Next::Ends
+    } else if k <= from {
+        Next::Fails
+    } else {
+        Next::GoesOn
     }
-    if k <= from {
-        return Next::Fails;
-    }
-    Next::GoesOn
 }
 
 // Puts the lines of an account at the front of `out`, from a number on, as far as the longest line has room.
@@ -139,10 +136,9 @@ pub fn put_part(
         written = replay_text::put_line(out, written, line);
         k += 1;
     }
-    let next = next_after(from, k, lines);
     Part {
         line: k,
         written,
-        next,
+        next: next_after(from, k, lines),
     }
 }

@@ -3,6 +3,7 @@ use mathlib.Core.Path.{◌≡◌, refl}
 use Prim.Native.Nat.{ℕ, ◌≤◌}
 use native.Mathlib.Omega.{arith}
 use lib.ListN.{length, length-append}
+use Rattle.std.specs.Prelude.{Option, None, Some}
 use Rattle.quantity.specs.Kinds.{ticks}
 use Rattle.text.specs.Decimal.{last_digits, fewest, digit_count, decimal}
 use Rattle.text.specs.Numeral.{most}
@@ -38,16 +39,16 @@ longest = refl
 
 -- ---- the notes
 
--- the number that a note tells, of 8 bits; two of them tell none
-abbrev pub note_number : Note → ℕ
-note_number note.Nothing = 0
-note_number (note.NotSetUp n number) = number
-note_number (note.Unreadable n offset number) = number
-note_number note.TooManyFrames = 0
+-- the number that a note tells, of 8 bits; one of them tells none, and so does no note
+abbrev pub note_number : Option Note → ℕ
+note_number None = 0
+note_number (Some (note.NotSetUp n number)) = number
+note_number (Some (note.Unreadable n offset number)) = number
+note_number (Some note.TooManyFrames) = 0
 
-pub no_note_longer : (x : Note) → note_number x ≤ 255 → length (note_text x) ≤ line_room
+pub no_note_longer : (x : Option Note) → note_number x ≤ 255 → length (note_text x) ≤ line_room
 unfolding note_text joined
-no_note_longer note.Nothing h = omega arith
-no_note_longer (note.NotSetUp n number) h = simp length-append (omega (arith, twenty n, three number h))
-no_note_longer (note.Unreadable n offset number) h = simp length-append (omega (arith, twenty n, twenty offset, three number h))
-no_note_longer note.TooManyFrames h = omega arith
+no_note_longer None h = omega arith
+no_note_longer (Some (note.NotSetUp n number)) h = simp length-append (omega (arith, twenty n, three number h))
+no_note_longer (Some (note.Unreadable n offset number)) h = simp length-append (omega (arith, twenty n, twenty offset, three number h))
+no_note_longer (Some note.TooManyFrames) h = omega arith

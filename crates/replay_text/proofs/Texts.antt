@@ -1,10 +1,11 @@
 -- Laws of a line and of a note that are put part by part. Assumes nothing.
-use mathlib.Core.Path.{◌≡◌, sym, ap, ◌∙◌}
+use mathlib.Core.Path.{◌≡◌, refl, sym, ap, ◌∙◌}
 use mathlib.Core.Bool.{Bool, true, false, cond}
-use mathlib.Core.List.{List}
-use Prim.Native.Nat.{ℕ, ◌+◌, ◌≤◌, ◌<◌}
+use mathlib.Core.List.{List, []}
+use Prim.Native.Nat.{ℕ, ◌+◌, ◌≤◌}
 use native.Mathlib.Omega.{arith}
-use borrow.Author.Tests.{le-leb, lt-leb}
+use borrow.Author.Tests.{leb-true}
+use Rattle.std.specs.Prelude.{Option, None, Some}
 use lib.Dec.{leb}
 use lib.ListN.{length}
 use Rattle.quantity.proofs.Booleans.{cond_true, cond_false}
@@ -24,16 +25,16 @@ module _ (l : List ℕ) (at : ℕ) where
   where_room : List ℕ → Placed
   where_room ts = cond (leb (at + line_room) (length l)) (placed l at ts) (record { next = at; bytes = l })
 
-  kept : (ts : List ℕ) → length l < at + line_room → record { next = at; bytes = l } ≡ where_room ts
+  kept : (ts : List ℕ) → leb (at + line_room) (length l) ≡ false → record { next = at; bytes = l } ≡ where_room ts
   unfolding where_room
-  kept ts h = sym (cond_false (leb (at + line_room) (length l)) (placed l at ts) (record { next = at; bytes = l }) (lt-leb _ _ h))
+  kept ts h = sym (cond_false (leb (at + line_room) (length l)) (placed l at ts) (record { next = at; bytes = l }) h)
 
-  put : (parts : List (List ℕ)) (x : Placed) → at + line_room ≤ length l → length (joined parts) ≤ line_room → x ≡ puts l at parts → x ≡ where_room (joined parts)
+  put : (parts : List (List ℕ)) (x : Placed) → leb (at + line_room) (length l) ≡ true → length (joined parts) ≤ line_room → x ≡ puts l at parts → x ≡ where_room (joined parts)
   unfolding where_room
   put parts x h short e =
       e
-      ∙ puts_fit parts l at (omega arith)
-      ∙ sym (cond_true (leb (at + line_room) (length l)) (placed l at (joined parts)) (record { next = at; bytes = l }) (le-leb _ _ h))
+      ∙ puts_fit parts l at (omega (arith, leb-true (at + line_room) (length l) h))
+      ∙ sym (cond_true (leb (at + line_room) (length l)) (placed l at (joined parts)) (record { next = at; bytes = l }) h)
 
   -- the next place is in the lent bytes where the one before is, and the bytes are as many
   within : (ts : List ℕ) (r : ℕ) (o : List ℕ) → record { next = r; bytes = o } ≡ where_room ts → at ≤ length l → (r ≤ length o) × (length o ≡ length l)
@@ -47,11 +48,11 @@ module _ (l : List ℕ) (at : ℕ) where
 -- ---- a line, and a note: put by its kind, part by part
 
 module _ (l : List ℕ) (at : ℕ) (line : Line) where
-  pub no_room : length l < at + line_room → record { next = at; bytes = l } ≡ line_put l at line
+  pub no_room : leb (at + line_room) (length l) ≡ false → record { next = at; bytes = l } ≡ line_put l at line
   unfolding line_put where_room
   no_room h = kept l at (text_of line) h
 
-  pub room : (kind : Line) (x : Placed) → at + line_room ≤ length l → line ≡ kind → number_of kind ≤ 255 → x ≡ puts l at (parts_of kind) → x ≡ line_put l at line
+  pub room : (kind : Line) (x : Placed) → leb (at + line_room) (length l) ≡ true → line ≡ kind → number_of kind ≤ 255 → x ≡ puts l at (parts_of kind) → x ≡ line_put l at line
   unfolding line_put where_room text_of
   room kind x h is small e = put l at (parts_of kind) x h (no_longer kind small) e ∙ ap (λ (k : Line). line_put l at k) (sym is)
 
@@ -59,14 +60,18 @@ module _ (l : List ℕ) (at : ℕ) (line : Line) where
   unfolding line_put where_room
   line_within r o e h = within l at (text_of line) r o e h
 
-module _ (l : List ℕ) (at : ℕ) (note : Note) where
-  pub no_room_noted : length l < at + line_room → record { next = at; bytes = l } ≡ note_put l at note
+module _ (l : List ℕ) (at : ℕ) (note : Option Note) where
+  pub no_room_noted : leb (at + line_room) (length l) ≡ false → record { next = at; bytes = l } ≡ note_put l at note
   unfolding note_put where_room
   no_room_noted h = kept l at (note_text note) h
 
-  pub noted : (kind : Note) (x : Placed) → at + line_room ≤ length l → note ≡ kind → note_number kind ≤ 255 → x ≡ puts l at (note_parts_of kind) → x ≡ note_put l at note
+  pub noted : (x y : Note) (o : Placed) → leb (at + line_room) (length l) ≡ true → note ≡ Some y → y ≡ x → note_number (Some x) ≤ 255 → o ≡ puts l at (note_parts_of x) → o ≡ note_put l at note
   unfolding note_put where_room note_text
-  noted kind x h is small e = put l at (note_parts_of kind) x h (no_note_longer kind small) e ∙ ap (λ (k : Note). note_put l at k) (sym is)
+  noted x y o h is kind small e = put l at (note_parts_of x) o h (no_note_longer (Some x) small) e ∙ ap (λ (k : Option Note). note_put l at k) (sym (is ∙ ap Some kind))
+
+  pub none_noted : leb (at + line_room) (length l) ≡ true → note ≡ None → record { next = at; bytes = l } ≡ note_put l at note
+  unfolding note_put where_room note_text puts joined
+  none_noted h is = put l at [] _ h (omega arith) refl ∙ ap (λ (k : Option Note). note_put l at k) (sym is)
 
   pub note_within : (r : ℕ) (o : List ℕ) → record { next = r; bytes = o } ≡ note_put l at note → at ≤ length l → (r ≤ length o) × (length o ≡ length l)
   unfolding note_put where_room

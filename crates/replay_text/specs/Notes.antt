@@ -1,12 +1,12 @@
 -- What a replay says of the records that it reads, character by character: a record's number, the offset of its first byte and document 01's numbers, in decimal, between words.
--- A note is its parts one after the other, and a line end stands at its end; or it is no text at all.
-use Rattle.std.specs.Prelude.{ℕ, ◌+◌, cond, List, [], ◌∷◌, leb, length}
+-- A note is its parts one after the other, and a line end stands at its end; no note is no text at all.
+use Rattle.std.specs.Prelude.{ℕ, ◌+◌, cond, List, [], ◌∷◌, Option, None, Some, leb, length}
 use Rattle.text.specs.Decimal.{decimal}
 use Rattle.text.specs.Places.{Placed, placed}
 use Rattle.text.specs.Puts.{joined}
 use Rattle.replay_text.specs.Lines.{line_end, line_room}
 use Rattle.replay_text.specs.declared.Note.{Note}
-use Rattle.replay_text.specs.declared.Note.TheVariants.{Nothing, NotSetUp, Unreadable, TooManyFrames}
+use Rattle.replay_text.specs.declared.Note.TheVariants.{NotSetUp, Unreadable, TooManyFrames}
 
 -- ---- the words, with the spaces around them
 
@@ -46,16 +46,16 @@ unreadable n offset number =
     failed_record_word ∷ decimal n ∷ at_byte_word ∷ decimal offset ∷ unreadable_word ∷ decimal number ∷ line_end ∷ []
 
 abbrev pub note_parts_of : Note → List (List ℕ)
-note_parts_of Nothing = []
 note_parts_of (NotSetUp n number) = refused_set_up n number
 note_parts_of (Unreadable n offset number) = unreadable n offset number
 note_parts_of TooManyFrames = too_many_word ∷ []
 
 -- ---- the notes
 
-unfoldable pub note_text : Note → List ℕ
-note_text note = joined (note_parts_of note)
+unfoldable pub note_text : Option Note → List ℕ
+note_text None = []
+note_text (Some note) = joined (note_parts_of note)
 
--- A note is put at a place of lent bytes where the longest line would have room; else nothing changes.
-unfoldable pub note_put : List ℕ → ℕ → Note → Placed
+-- A note, if there is one, is put at a place of lent bytes where the longest line would have room; else nothing changes.
+unfoldable pub note_put : List ℕ → ℕ → Option Note → Placed
 note_put bytes at note = cond (leb (at + line_room) (length bytes)) (placed bytes at (note_text note)) (record { next = at; bytes = bytes })

@@ -40,10 +40,9 @@ pub enum Line {
     },
 }
 
-// What a replay says on standard error of a record, one line or nothing.
+// A line that a replay says of a record on standard error.
 #[derive(Clone, Copy, Drop)]
 pub enum Note {
-    Nothing,
     // `record N: set-up refused, NUMBER`
     NotSetUp {
         record: u64,
@@ -111,11 +110,7 @@ fn put_stop(
 pub fn put_line(out: &mut [u8], at: usize, line: Line) -> usize
     ensures { record { next = result; bytes = out.new } ≡ line_put out.old at line }
 {
-    let len = out.len();
-    if len < at {
-        return at;
-    }
-    if len - at < LINE_ROOM {
+    if !text::has_room(out.len(), at, LINE_ROOM) {
         return at;
     }
     match line {
@@ -154,19 +149,17 @@ fn put_unreadable(out: &mut [u8], at: usize, n: u64, offset: u64, number: u64) -
     put_last(out, after_offset, b": unreadable, ", number)
 }
 
-// Puts a note at a place, where the longest line would have room.
-pub fn put_note(out: &mut [u8], at: usize, note: Note) -> usize
+// Puts a note, if there is one, at a place, where the longest line would have room.
+pub fn put_note(out: &mut [u8], at: usize, note: Option<Note>) -> usize
     ensures { record { next = result; bytes = out.new } ≡ note_put out.old at note }
 {
-    let len = out.len();
-    if len < at {
+    if !text::has_room(out.len(), at, LINE_ROOM) {
         return at;
     }
-    if len - at < LINE_ROOM {
+    let Some(note) = note else {
         return at;
-    }
+    };
     match note {
-        Note::Nothing => at,
         Note::NotSetUp { record, number } => put_refused_set_up(out, at, record, number as u64),
         Note::Unreadable {
             record,

@@ -1,4 +1,5 @@
 -- Laws of a turn over lent buffers: what its calls leave is what its definition says. Assumes nothing.
+use Rattle.std.specs.Prelude.{Option}
 use mathlib.Core.Path.{◌≡◌, refl, sym, ap, ◌∙◌, subst}
 use mathlib.Core.Bool.{Bool, true, false, ◌&&◌}
 use mathlib.Core.List.{List}
@@ -37,7 +38,7 @@ use Rattle.replay_turn.proofs.Turning.{note_number_law}
 front : List ℕ → List ℕ → Placed
 front notes text = record { next = length text; bytes = sets notes 0 text }
 
-note_put_law : (notes : List ℕ) (note : Note) → note_number note ≤ 255 → line_room ≤ length notes → note_put notes 0 note ≡ front notes (note_text note)
+note_put_law : (notes : List ℕ) (note : Option Note) → note_number note ≤ 255 → line_room ≤ length notes → note_put notes 0 note ≡ front notes (note_text note)
 unfolding note_put front
 note_put_law notes note h room =
     let short = no_note_longer note h in
@@ -164,12 +165,12 @@ module _ (x : Standing) (input notes arrivals ids octets : List ℕ) where
       ∙ ap by_turn (cond_true (countable x.records x.bytes (length held)) (turn_of reached g y) (stuck reached) (ap (countable x.records x.bytes) n ∙ p.1)))
 
   pub turn_made_law : is_ready x.held x.records x.bytes (length input) (length notes) ≡ true
-      → (r : Gathered) (a₂ i₂ o₂ : List ℕ) (y : Next) (note : Note) (whole : Bool) (written : ℕ) (notes₂ : List ℕ) (kept : Held) (in₂ : List ℕ)
+      → (r : Gathered) (a₂ i₂ o₂ : List ℕ) (y : Next) (told : Option Note) (whole : Bool) (written : ℕ) (notes₂ : List ℕ) (kept : Held) (in₂ : List ℕ)
       → record { gathered = r; arrivals = a₂; ids = i₂; octets = o₂ } ≡ gather_from (held_in x.held input) (begun x.bridge arrivals ids octets x.count)
       → y ≡ next_of r.why x.held.told
-      → note ≡ note_of r.why y (x.records + r.records) (x.bytes + r.at)
+      → told ≡ note_of r.why y (x.records + r.records) (x.bytes + r.at)
       → whole ≡ whole_by r.why y
-      → record { next = written; bytes = notes₂ } ≡ note_put notes 0 note
+      → record { next = written; bytes = notes₂ } ≡ note_put notes 0 told
       → record { held = kept; bytes = in₂ } ≡ kept_for y (left_held x.held r.at) input
       → record {
         turned = record { standing = record { bridge = r.bridge; records = x.records + r.records; bytes = x.bytes + r.at; count = r.count; whole = whole; held = kept }; written = written; next = y };
@@ -180,7 +181,7 @@ module _ (x : Standing) (input notes arrivals ids octets : List ℕ) where
         octets = o₂;
       } ≡ turn_made x input notes arrivals ids octets
   unfolding by_gathered by_next made gathering reached_by
-  turn_made_law ready r a₂ i₂ o₂ y note whole written notes₂ kept in₂ e n m w p k =
+  turn_made_law ready r a₂ i₂ o₂ y told whole written notes₂ kept in₂ e n m w p k =
       let g : Outcome = record { gathered = r; arrivals = a₂; ids = i₂; octets = o₂ } in
       let R = x.records + r.records in
       let B = x.bytes + r.at in

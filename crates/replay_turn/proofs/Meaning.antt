@@ -1,4 +1,5 @@
 -- Laws of what a file gives a replay: from any place on, and in parts. Assumes nothing.
+use Rattle.std.specs.Prelude.{Option, None, Some}
 use mathlib.Core.Path.{◌≡◌, refl, sym, ap, ◌∙◌, subst}
 use mathlib.Core.Bool.{Bool, true, false, cond}
 use mathlib.Core.List.{List, [], ◌∷◌, ◌++◌, append_assoc}
@@ -76,7 +77,7 @@ unfolding taken set_up_made
 taken_same most n y (rec.Group i c M) f g h = ap (following _) (h _)
 taken_same most n y (rec.GroupDefault i c) f g h = ap (following _) (h _)
 taken_same most n y (rec.Stream i k r u) f g h = ap (following _) (h _)
-taken_same most n y (rec.Frame i o A) f g h = cond_same (ltb (frames y) most) (f (with_frame y i o A.0)) (g (with_frame y i o A.0)) (ends_with note.TooManyFrames false y) (h (with_frame y i o A.0))
+taken_same most n y (rec.Frame i o A) f g h = cond_same (ltb (frames y) most) (f (with_frame y i o A.0)) (g (with_frame y i o A.0)) (ends_with (Some note.TooManyFrames) false y) (h (with_frame y i o A.0))
 
 -- what stands before the place only counts
 module _ (most before : ℕ) (front bytes : List ℕ) where
@@ -129,11 +130,11 @@ rest_of most y n before part after p h =
 -- ---- a gathering
 
 -- what it says of a set-up that it was ended by
-unfoldable pub spoken : End → ℕ → Note
-spoken NothingLeft n = note.Nothing
-spoken (Unreadable why) n = note.Nothing
-spoken (NotSetUp why) n = note.NotSetUp n (number_of why)
-spoken ListsFull n = note.Nothing
+unfoldable pub spoken : End → ℕ → Option Note
+spoken NothingLeft n = None
+spoken (Unreadable why) n = None
+spoken (NotSetUp why) n = Some (note.NotSetUp n (number_of why))
+spoken ListsFull n = None
 
 -- what was gathered: the places that are taken
 unfoldable pub yard_in : State → Yard
@@ -159,7 +160,7 @@ unfolding frame_taken
 frame_fewest g next i o A = simp length-set
 
 -- no text in front
-pub nothing_before : (x : Given Final) → following (note_text note.Nothing) x ≡ x
+pub nothing_before : (x : Given Final) → following (note_text None) x ≡ x
 unfolding following note_text joined
 nothing_before x = refl
 
@@ -173,9 +174,9 @@ module _ (records before : ℕ) (part after : List ℕ) (h : AreBytes part) wher
   Goes g o = gives g ≡ following (note_text (spoken o.gathered.why (records + o.gathered.records))) (gives (resumed o))
 
   -- it ended where it stood, and says nothing
-  stops : (g : State) (why : End) → spoken why (records + g.records) ≡ note.Nothing → Goes g (ended why g)
+  stops : (g : State) (why : End) → spoken why (records + g.records) ≡ None → Goes g (ended why g)
   unfolding Goes ended resumed
-  stops g why e = sym (ap (λ (x : Note). following (note_text x) (gives g)) e ∙ nothing_before (gives g))
+  stops g why e = sym (ap (λ (x : Option Note). following (note_text x) (gives g)) e ∙ nothing_before (gives g))
 
   one_record : (g : State) → records + g.records + 1 ≡ records + (g.records + 1)
   one_record g = add_assoc records g.records 1
@@ -214,7 +215,7 @@ module _ (records before : ℕ) (part after : List ℕ) (h : AreBytes part) wher
         let L = part ++ after in
         let y = with_frame (yard_in g) i o A.0 in
         record_first (fewest g) (yard_in g) n before L g.at (rec.Frame i o A) next (found_there part after h g.at (rec.Frame i o A) next e)
-        ∙ cond_true (ltb (frames (yard_in g)) (fewest g)) (gathered_at (fewest g) y (n + 1) before L next) (ends_with note.TooManyFrames false (yard_in g)) (place_left g ∙ r)
+        ∙ cond_true (ltb (frames (yard_in g)) (fewest g)) (gathered_at (fewest g) y (n + 1) before L next) (ends_with (Some note.TooManyFrames) false (yard_in g)) (place_left g ∙ r)
         ∙ ap (λ (k : ℕ). gathered_at (fewest g) y k before L next) (one_record g)
         ∙ ap (λ (z : Yard). gathered_at (fewest g) z m before L next) (frame_yard g next i o A.0 r)
         ∙ ap (λ (k : ℕ). gathered_at k (yard_in t) m before L next) (sym (frame_fewest g next i o A.0))

@@ -1,9 +1,10 @@
 -- Laws of what comes next after a gathering. Assumes nothing.
-use mathlib.Core.Path.{◌≡◌, refl, sym, ap, ◌∙◌}
+use Rattle.std.specs.Prelude.{None}
+use mathlib.Core.Path.{◌≡◌, refl, ap}
 use mathlib.Core.Bool.{Bool, true, false, cond}
 use Prim.Native.Nat.{ℕ}
 use native.Mathlib.Omega.{arith}
-use borrow.Author.Tests.{eq-eqb, ne_eqb, eqb-true, eqb-false}
+use borrow.Author.Tests.{eqb-true, eqb-false}
 use lib.Dec.{eqb}
 use Rattle.quantity.specs.Numbers.{number_of}
 use Rattle.quantity.specs.declared.Refusal.{Refusal}
@@ -14,25 +15,8 @@ use Rattle.intake.specs.declared.Next.{Next}
 use Rattle.intake.specs.declared.Next.TheVariants.{GoesOn, Reads, Ends, Fails}
 use Rattle.replay_gathering.specs.declared.End.{End}
 use Rattle.replay_gathering.specs.declared.End.TheVariants.{NothingLeft, Unreadable, NotSetUp, ListsFull}
-use Rattle.replay_text.specs.declared.Note.TheVariants as note
 use Rattle.replay_turn.specs.Turns.{at_edge, next_of, unread_note, note_of}
 use Rattle.replay_turn.proofs.Meaning.{spoken}
-
--- a refusal, by its number
-module _ (x : End) (why : Refusal) (told : Told) (a b : ℕ) (e : x ≡ Unreadable why) (f : a ≡ number_of why) (g : b ≡ number_of CutShort) where
-  pub cut_off : a ≡ b → at_edge told ≡ next_of x told
-  unfolding next_of
-  cut_off q =
-      sym
-      (ap (λ (y : End). next_of y told) e
-      ∙ ap (λ (t : Bool). cond t (at_edge told) Ends) (eq-eqb (number_of why) (number_of CutShort) (sym f ∙ q ∙ g)))
-
-  pub for_good : (a ≡ b → ⊥) → Ends ≡ next_of x told
-  unfolding next_of
-  for_good q =
-      sym
-      (ap (λ (y : End). next_of y told) e
-      ∙ ap (λ (t : Bool). cond t (at_edge told) Ends) (ne_eqb (number_of why) (number_of CutShort) (λ z. q (f ∙ z ∙ sym g))))
 
 -- ---- each of them is one
 
@@ -134,7 +118,7 @@ going (NotSetUp why) told e = after_set_up why
 going ListsFull told e = absurd (differ e (λ z. omega arith))
 
 -- ---- where it does not end, it says what a gathering says
-silent : (x : Next) (n offset number : ℕ) → (x ≡ Ends → ⊥) → unread_note x n offset number ≡ note.Nothing
+silent : (x : Next) (n offset number : ℕ) → (x ≡ Ends → ⊥) → unread_note x n offset number ≡ None
 unfolding unread_note
 silent GoesOn n offset number h = refl
 silent Reads n offset number h = refl

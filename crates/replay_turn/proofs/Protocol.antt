@@ -54,9 +54,9 @@ turn_stands places n x input notes arrivals ids octets w room g =
 
 pub reading_stands : ReadingStands
 unfolding with_held reached_by
-reading_stands places n x input arrivals ids octets w r got waits after same = record {
+reading_stands places n x input arrivals ids octets w r got after same = record {
   began = r.began;
-  may = sessions.reading_stands Reached read_turn (from r.began) n (reached_by x arrivals ids octets) x.held input w r.may got waits after same;
+  may = sessions.reading_stands Reached read_turn (from r.began) n (reached_by x arrivals ids octets) x.held input w r.may got after same;
 }
 
 -- a reading that begins on lists of so many places gathers onto nothing

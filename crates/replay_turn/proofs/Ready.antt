@@ -1,9 +1,8 @@
 -- Laws of whether a turn can be made. Assumes nothing.
-use mathlib.Core.Path.{◌≡◌, refl, sym, ◌∙◌}
-use mathlib.Core.Bool.{Bool, true, false, ◌&&◌}
-use Prim.Native.Nat.{ℕ, ◌+◌, ◌-◌, ◌≤◌, ◌<◌}
-use native.Mathlib.Omega.{arith}
-use borrow.Author.Tests.{ltb-true, leb-true, leb-false, lt-ltb, le-ltb, le-leb, lt-leb}
+use mathlib.Core.Path.{◌≡◌}
+use mathlib.Core.Bool.{true}
+use Prim.Native.Nat.{ℕ, ◌+◌, ◌≤◌, ◌<◌}
+use borrow.Author.Tests.{ltb-true, leb-true, lt-ltb, le-leb}
 use lib.Dec.{ltb, leb}
 use Rattle.quantity.proofs.Booleans.{both}
 use Rattle.text.specs.Numeral.{most}
@@ -12,39 +11,6 @@ use Rattle.intake.specs.declared.Held.{Held}
 use Rattle.intake.proofs.Promises.{is_within_law, within_is}
 use Rattle.replay_text.specs.Lines.{line_room}
 use Rattle.replay_turn.specs.Turns.{countable, buffers_fit}
-
--- ---- what the code tests
-
-module _ (records bytes n : ℕ) (h : n ≤ most) where
-  pub not_counted : most - n ≤ records → false ≡ countable records bytes n
-  unfolding countable
-  not_counted k = rw (le-ltb (records + n) most (omega arith))
-
-  on_this_side : leb bytes (most - n) ≡ leb (bytes + n) most
-  on_this_side = go (leb bytes (most - n)) refl
-    where
-      go : (t : Bool) → leb bytes (most - n) ≡ t → t ≡ leb (bytes + n) most
-      go true e = sym (le-leb (bytes + n) most (omega (arith, leb-true bytes (most - n) e)))
-      go false e = sym (lt-leb (bytes + n) most (omega (arith, leb-false bytes (most - n) e)))
-
-  pub by_bytes : records < most - n → leb bytes (most - n) ≡ countable records bytes n
-  unfolding countable
-  by_bytes k = on_this_side ∙ rw (lt-ltb (records + n) most (omega arith))
-
-module _ (h : Held) (size room : ℕ) (t : Bool) where
-  pub not_within : is_within h size ≡ false → false ≡ (buffers_fit h size room && t)
-  unfolding buffers_fit
-  not_within e = rw e
-
-  pub no_room : is_within h size ≡ true → room < line_room → false ≡ (buffers_fit h size room && t)
-  unfolding buffers_fit
-  no_room e k = rw (e, lt-leb line_room room k)
-
-  pub has_room_law : is_within h size ≡ true → line_room ≤ room → t ≡ (buffers_fit h size room && t)
-  unfolding buffers_fit
-  has_room_law e k = rw (e, le-leb line_room room k)
-
--- ---- and what that says
 
 pub record Fitting (h : Held) (size n : ℕ) : Type 0 where
   pub within : Within h size

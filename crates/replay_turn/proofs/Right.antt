@@ -1,4 +1,5 @@
 -- A turn is right: what it says and what its state gives for the rest are what the whole gives. Assumes nothing.
+use Rattle.std.specs.Prelude.{Option, None, Some}
 use mathlib.Core.Path.{◌≡◌, refl, sym, ap, ◌∙◌}
 use mathlib.Core.Bool.{true, false}
 use mathlib.Core.List.{List, [], ◌++◌, append-nil}
@@ -43,27 +44,27 @@ use Rattle.replay_turn.proofs.Turning.{gathering_halts}
 
 -- the whole ends there, where nothing follows, or where the reader refused it for good
 module _ (most n before : ℕ) (y : Yard) (bytes : List ℕ) (p : ℕ) where
-  whole_ends : read_at bytes p ≡ reading.NothingLeft → gathered_at most y n before bytes p ≡ ends_with note.Nothing true y
+  whole_ends : read_at bytes p ≡ reading.NothingLeft → gathered_at most y n before bytes p ≡ ends_with None true y
   unfolding ended_at
   whole_ends e = no_record_ends most y n before bytes p nothing_there e
 
-  unread_ends : (why : Refusal) → read_at bytes p ≡ reading.Refused why → gathered_at most y n before bytes p ≡ ends_with (note.Unreadable (n + 1) (before + p) (number_of why)) false y
+  unread_ends : (why : Refusal) → read_at bytes p ≡ reading.Refused why → gathered_at most y n before bytes p ≡ ends_with (Some (note.Unreadable (n + 1) (before + p) (number_of why))) false y
   unfolding ended_at
   unread_ends why e =
       no_record_ends most y n before bytes p (refused_here why) e
-      ∙ cond_false (eqb (number_of why) nothing_left) (ends_with note.Nothing true y) (ends_with (note.Unreadable (n + 1) (before + p) (number_of why)) false y)
+      ∙ cond_false (eqb (number_of why) nothing_left) (ends_with None true y) (ends_with (Some (note.Unreadable (n + 1) (before + p) (number_of why))) false y)
       (ne_eqb (number_of why) nothing_left (λ z. omega (arith, (refusal_number why).0)))
 
   full_ends : (i o : ℕ) (A : Ticks) (next : ℕ) → read_at bytes p ≡ reading.Found (Frame i o A) next → ltb (frames y) most ≡ false
-      → gathered_at most y n before bytes p ≡ ends_with note.TooManyFrames false y
+      → gathered_at most y n before bytes p ≡ ends_with (Some note.TooManyFrames) false y
   unfolding taken
-  full_ends i o A next e f = record_first most y n before bytes p (Frame i o A) next e ∙ cond_false (ltb (frames y) most) _ (ends_with note.TooManyFrames false y) f
+  full_ends i o A next e f = record_first most y n before bytes p (Frame i o A) next e ∙ cond_false (ltb (frames y) most) _ (ends_with (Some note.TooManyFrames) false y) f
 
 module _ (n before : ℕ) (held after : List ℕ) (h : AreBytes held) (said : Told) (all : said ≡ Ended → after ≡ []) (r : State) (w : r.at ≤ length held) where
   alone : said ≡ Ended → held ++ after ≡ held
   alone q = ap (λ (l : List ℕ). held ++ l) (all q) ∙ append-nil held
 
-  by_frame : Halted held 0 r ListsFull → gathered_at (fewest r) (yard_in r) n before (held ++ after) r.at ≡ ends_with note.TooManyFrames false (yard_in r)
+  by_frame : Halted held 0 r ListsFull → gathered_at (fewest r) (yard_in r) n before (held ++ after) r.at ≡ ends_with (Some note.TooManyFrames) false (yard_in r)
   unfolding yard_in
   by_frame (lists_full i o A next e f) =
       full_ends (fewest r) n before (yard_in r) (held ++ after) r.at i o A next (found_there held after h r.at (Frame i o A) next e) (place_left r ∙ f)
@@ -79,7 +80,7 @@ module _ (n before : ℕ) (held after : List ℕ) (h : AreBytes held) (said : To
   ends_by no_place k = by_frame k
 
 -- why it ends is no set-up that was refused
-ends_silent : {why : End} {said : Told} (n : ℕ) → Closed said why → spoken why n ≡ note.Nothing
+ends_silent : {why : End} {said : Told} (n : ℕ) → Closed said why → spoken why n ≡ None
 unfolding spoken
 ends_silent n (at_the_end q) = refl
 ends_silent n (cut_at_the_end why q) = refl
@@ -115,7 +116,7 @@ module _ (s : Reached) (held : List ℕ) (said : Told) (after : List ℕ) (h : A
       let x = next_of why said in
       whole_goes
       ∙ ap (following (note_text (spoken why n))) (rest_of (fewest (resumed g)) (yard_in (resumed g)) n s.bytes held after at H.inside)
-      ∙ ap (λ (k : Note). following (note_text k) (reading_on (reached_after s g x) (drop at held ++ after))) (sym (note_on why said n (s.bytes + at) unended))
+      ∙ ap (λ (k : Option Note). following (note_text k) (reading_on (reached_after s g x) (drop at held ++ after))) (sym (note_on why said n (s.bytes + at) unended))
 
   pub last_right : (said ≡ Ended → after ≡ []) → Closed said g.gathered.why
       → reading_on s (held ++ after)
@@ -130,6 +131,6 @@ module _ (s : Reached) (held : List ℕ) (said : Told) (after : List ℕ) (h : A
       let at = g.gathered.at in
       let H = gathering_halts s held said in
       whole_goes
-      ∙ ap (λ (k : Note). following (note_text k) (gathered_at (fewest (resumed g)) (yard_in (resumed g)) n s.bytes (held ++ after) at)) (ends_silent n c)
+      ∙ ap (λ (k : Option Note). following (note_text k) (gathered_at (fewest (resumed g)) (yard_in (resumed g)) n s.bytes (held ++ after) at)) (ends_silent n c)
       ∙ nothing_before (gathered_at (fewest (resumed g)) (yard_in (resumed g)) n s.bytes (held ++ after) at)
       ∙ ends_by n s.bytes held after h said all (resumed g) H.inside c H.halted

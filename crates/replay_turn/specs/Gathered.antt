@@ -1,6 +1,6 @@
 -- Document 01, 'The table file', for a replay: what a whole file gives, said by its records. The frames, in order, are the arrivals of the run.
 -- y is what was gathered, most how many frames have a place, n a count of records; of a record, i is its id, c a class, M a residence limit, k a stream's group, r a rate, u a burst, o a frame's octets, A its arrival.
-use Rattle.std.specs.Prelude.{ℕ, ◌+◌, Bool, true, false, cond, List, [], ◌∷◌, ◌++◌, ltb, eqb, length, Ok, Err}
+use Rattle.std.specs.Prelude.{ℕ, ◌+◌, Bool, true, false, cond, List, [], ◌∷◌, ◌++◌, Option, None, Some, Ok, Err, ltb, eqb, length}
 use Rattle.quantity.specs.Numbers.{number_of}
 use Rattle.tablefile.specs.Answers.{nothing_left}
 use Rattle.tablefile.specs.Meaning.{default_residence}
@@ -14,7 +14,7 @@ use Rattle.bridge.specs.Calls.{BridgeSetUp}
 use Rattle.intake.specs.Promises.{Given, following}
 use Rattle.replay_text.specs.Notes.{note_text}
 use Rattle.replay_text.specs.declared.Note.{Note}
-use Rattle.replay_text.specs.declared.Note.TheVariants.{Nothing, NotSetUp, Unreadable, TooManyFrames}
+use Rattle.replay_text.specs.declared.Note.TheVariants.{NotSetUp, Unreadable, TooManyFrames}
 use Rattle.std.specs.declared.result.Result.{Result}
 use Rattle.quantity.specs.declared.Refusal.{Refusal}
 
@@ -47,19 +47,19 @@ pub record Final : Type 0 where
   pub yard : Yard
 
 -- it ends here, and says so
-unfoldable pub ends_with : Note → Bool → Yard → Given Final
+unfoldable pub ends_with : Option Note → Bool → Yard → Given Final
 ends_with note whole y = record { text = note_text note; final = record { whole = whole; yard = y } }
 
 -- ---- record by record
 
 -- a set-up that was refused is told, and the reading goes on
-unfoldable pub answer_note : ℕ → Result (Unit {0}) Refusal → Note
-answer_note n (Ok tt) = Nothing
-answer_note n (Err why) = NotSetUp n (number_of why)
+unfoldable pub answer_note : ℕ → Result (Unit {0}) Refusal → Option Note
+answer_note n (Ok tt) = None
+answer_note n (Err why) = Some (NotSetUp n (number_of why))
 
 -- after n records, at an offset: the file ended there, or what stands there is no record, and the number says why
 unfoldable pub ended_at : Yard → ℕ → ℕ → ℕ → Given Final
-ended_at y n offset number = cond (eqb number nothing_left) (ends_with Nothing true y) (ends_with (Unreadable (n + 1) offset number) false y)
+ended_at y n offset number = cond (eqb number nothing_left) (ends_with None true y) (ends_with (Some (Unreadable (n + 1) offset number)) false y)
 
 -- a set-up, and what follows it on the tables that it leaves: as they were, where it was refused
 unfoldable pub set_up_made : ℕ → Yard → BridgeSetUp → (Yard → Given Final) → Given Final
@@ -70,7 +70,7 @@ unfoldable pub taken : ℕ → ℕ → Yard → Record → (Yard → Given Final
 taken most n y (Group i c M) rest = set_up_made n y (group_called y.bridge i c M.0) rest
 taken most n y (GroupDefault i c) rest = set_up_made n y (group_called y.bridge i c default_residence) rest
 taken most n y (Stream i k r u) rest = set_up_made n y (stream_called y.bridge i k r.0 u) rest
-taken most n y (Frame i o A) rest = cond (ltb (frames y) most) (rest (with_frame y i o A.0)) (ends_with TooManyFrames false y)
+taken most n y (Frame i o A) rest = cond (ltb (frames y) most) (rest (with_frame y i o A.0)) (ends_with (Some TooManyFrames) false y)
 
 -- one record after the other, and then the end
 unfoldable pub records_taken : ℕ → ℕ → Yard → List Record → ℕ → ℕ → Given Final

@@ -1,10 +1,11 @@
 -- Where the program stands in its reading: which turn it may make, and what lies open to it after one.
 -- Each statement has a name here, and its proof under the same name in the file Protocol of proofs/. x is where the reading stands; n is the number of a turn.
-use Rattle.std.specs.Prelude.{ℕ, suc, ◌≤◌, ◌≡◌, Bool, List, ℤ, length, take}
+use Rattle.std.specs.Prelude.{ℕ, suc, ◌≤◌, ◌≡◌, List, Result, length, take}
 use Rattle.tablefile.specs.BigEndian.{AreBytes}
 use Rattle.intake.specs.Holding.{Within, held_in, came_in}
 use Rattle.intake.specs.Sessions.{MayTurn, MayRead, HasEnded}
 use Rattle.intake.specs.declared.Held.{Held}
+use Rattle.intake.specs.declared.Unread.{Unread}
 use Rattle.intake.specs.declared.Next.{Next}
 use Rattle.intake.specs.declared.Next.TheVariants.{GoesOn, Reads, Ends}
 use Rattle.replay_text.specs.Lines.{line_room}
@@ -70,8 +71,8 @@ with_held x h = record { bridge = x.bridge; records = x.records; bytes = x.bytes
 abbrev pub ReadingStands : Type 0
 ReadingStands =
     (places n : ℕ) (x : Standing) (input arrivals ids octets : List ℕ) → Within x.held (length input) → MayReadOn places n x input arrivals ids octets
-    → (got : ℤ) (waits : Bool) (after : List ℕ) → take x.held.filled after ≡ take x.held.filled input
-    → MayGather places (suc n) (with_held x (came_in x.held got waits (length input))) after arrivals ids octets
+    → (got : Result ℕ Unread) (after : List ℕ) → take x.held.filled after ≡ take x.held.filled input
+    → MayGather places (suc n) (with_held x (came_in x.held got (length input))) after arrivals ids octets
 
 -- what stands in the tables and lists where it has ended is what the bytes that were read give as a whole
 abbrev pub GatheredIsTheFile : Type 0

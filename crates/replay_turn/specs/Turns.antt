@@ -1,6 +1,6 @@
 -- Document 01, 'The table file', for a replay of a file that comes in parts: one turn of its reading, over what is held of the file. No sentence of the document stands here.
 -- s is where the reading stands, c the same as the call has it, h what is held, g what a gathering gave, x what comes next, t a turn; n is a count of records or of bytes, offset one of bytes.
-use Rattle.std.specs.Prelude.{ℕ, ◌+◌, ◌-◌, min, Bool, true, false, cond, ◌&&◌, List, [], ltb, leb, eqb, length, take}
+use Rattle.std.specs.Prelude.{ℕ, ◌+◌, ◌-◌, min, Bool, true, false, cond, ◌&&◌, List, [], Option, None, Some, ltb, leb, eqb, length, take}
 use Rattle.std.proofs.lemmas.List.Edits.{sets}
 use Rattle.quantity.specs.Numbers.{number_of}
 use Rattle.quantity.specs.declared.Refusal.TheVariants.{CutShort}
@@ -43,18 +43,18 @@ next_of end.ListsFull told = next.Ends
 -- ---- what is said of it
 
 -- where the reading ends, the record that cannot be read: the one after n records, at an offset
-unfoldable pub unread_note : Next → ℕ → ℕ → ℕ → Note
-unread_note next.GoesOn n offset number = note.Nothing
-unread_note next.Reads n offset number = note.Nothing
-unread_note next.Ends n offset number = note.Unreadable (n + 1) offset number
-unread_note next.Fails n offset number = note.Nothing
+unfoldable pub unread_note : Next → ℕ → ℕ → ℕ → Option Note
+unread_note next.GoesOn n offset number = None
+unread_note next.Reads n offset number = None
+unread_note next.Ends n offset number = Some (note.Unreadable (n + 1) offset number)
+unread_note next.Fails n offset number = None
 
 -- the set-up that was refused is the last of the n records
-unfoldable pub note_of : End → Next → ℕ → ℕ → Note
-note_of end.NothingLeft x n offset = note.Nothing
+unfoldable pub note_of : End → Next → ℕ → ℕ → Option Note
+note_of end.NothingLeft x n offset = None
 note_of (end.Unreadable why) x n offset = unread_note x n offset (number_of why)
-note_of (end.NotSetUp why) x n offset = note.NotSetUp n (number_of why)
-note_of end.ListsFull x n offset = note.TooManyFrames
+note_of (end.NotSetUp why) x n offset = Some (note.NotSetUp n (number_of why))
+note_of end.ListsFull x n offset = Some note.TooManyFrames
 
 -- ---- whether the whole file was taken
 

@@ -5,16 +5,13 @@
 
 ghost use Rattle.std.specs.Prelude.{◌≡◌, ◌<◌};
 ghost use Rattle.text.specs.Numeral.{most};
-ghost use Rattle.replay_turn.specs.Turns.{at_edge, next_of, unread_note, note_of, is_end, whole_by, countable, is_ready, begun_reading, turn_made};
+ghost use Rattle.replay_turn.specs.Turns.{at_edge, next_of, unread_note, note_of, whole_by, countable, is_ready, begun_reading, turn_made};
 
 use bridge::Bridge;
 use intake::{Held, Next, Told};
 use quantity::Refusal;
 use replay_gathering::End;
 use replay_text::Note;
-
-// The largest number of 64 bits.
-const MOST: u64 = 18_446_744_073_709_551_615;
 
 // Where the reading stands.
 #[derive(Clone, Copy, Drop)]
@@ -40,24 +37,24 @@ pub struct Turned {
 }
 
 // Nothing was read yet.
+#[tactic(auto, unfolding(crate::specs::Turns::begun_reading))]
 pub fn begin() -> Standing
     ensures { result ≡ begun_reading }
 {
-    let bridge = bridge::fresh();
-    let held = intake::nothing();
     Standing {
-        bridge,
+        bridge: bridge::fresh(),
         records: 0,
         bytes: 0,
         count: 0,
         whole: false,
-        held,
+        held: Held::nothing(),
     }
 }
 
 // ---- what comes next
 
 // Where the bytes that are held end before a whole record.
+#[tactic(auto, unfolding(crate::specs::Turns::at_edge))]
 fn edge_next(told: Told) -> Next
     ensures { result ≡ at_edge told }
 {
@@ -69,17 +66,14 @@ fn edge_next(told: Told) -> Next
 }
 
 // By why the gathering ended.
+#[tactic(auto, unfolding(crate::specs::Turns::next_of))]
 fn next_of(why: End, told: Told) -> Next
     ensures { result ≡ next_of why told }
 {
     match why {
         End::NothingLeft => edge_next(told),
-        End::Unreadable(refusal) => {
-            if quantity::refusal_number(refusal) == quantity::refusal_number(Refusal::CutShort) {
-                return edge_next(told);
-            }
-            Next::Ends
-        }
+        End::Unreadable(Refusal::CutShort) => edge_next(told),
+        End::Unreadable(_) => Next::Ends,
         End::NotSetUp(_) => Next::GoesOn,
         End::ListsFull => Next::Ends,
     }
@@ -88,93 +82,70 @@ fn next_of(why: End, told: Told) -> Next
 // ---- what is said of it
 
 // The record after so many is said to be unreadable where the reading ends.
-fn unread_note(next: Next, records: u64, bytes: u64, number: u8) -> Note
+#[tactic(auto, unfolding(crate::specs::Turns::unread_note))]
+fn unread_note(next: Next, records: u64, bytes: u64, number: u8) -> Option<Note>
     requires { records < most }
     ensures { result ≡ unread_note next records bytes number }
 {
     match next {
-        Next::GoesOn => Note::Nothing,
-        Next::Reads => Note::Nothing,
-        Next::Ends => Note::Unreadable {
+        Next::Ends => Some(Note::Unreadable {
             record: records + 1,
             offset: bytes,
             number,
-        },
-        Next::Fails => Note::Nothing,
+        }),
+        Next::GoesOn | Next::Reads | Next::Fails => None,
     }
 }
 
 // Of the record at the place where a gathering ended, after so many records and bytes, or of the set-up before it.
-fn note_of(why: End, next: Next, records: u64, bytes: u64) -> Note
+#[tactic(auto, unfolding(crate::specs::Turns::note_of))]
+fn note_of(why: End, next: Next, records: u64, bytes: u64) -> Option<Note>
     requires { records < most }
     ensures { result ≡ note_of why next records bytes }
 {
     match why {
-        End::NothingLeft => Note::Nothing,
+        End::NothingLeft => None,
         End::Unreadable(refusal) => {
-            let number = quantity::refusal_number(refusal);
-            unread_note(next, records, bytes, number)
+            unread_note(next, records, bytes, quantity::refusal_number(refusal))
         }
-        End::NotSetUp(refusal) => {
-            let number = quantity::refusal_number(refusal);
-            Note::NotSetUp {
-                record: records,
-                number,
-            }
-        }
-        End::ListsFull => Note::TooManyFrames,
+        End::NotSetUp(refusal) => Some(Note::NotSetUp {
+            record: records,
+            number: quantity::refusal_number(refusal),
+        }),
+        End::ListsFull => Some(Note::TooManyFrames),
     }
 }
 
 // ---- whether the whole file was taken
 
-fn is_end(next: Next) -> bool
-    ensures { result ≡ is_end next }
-{
-    match next {
-        Next::GoesOn => false,
-        Next::Reads => false,
-        Next::Ends => true,
-        Next::Fails => false,
-    }
-}
-
 // It ended after a whole record.
+#[tactic(auto, unfolding(crate::specs::Turns::is_end, crate::specs::Turns::whole_by))]
 fn is_whole(why: End, next: Next) -> bool
     ensures { result ≡ whole_by why next }
 {
-    match why {
-        End::NothingLeft => is_end(next),
-        End::Unreadable(_) => false,
-        End::NotSetUp(_) => false,
-        End::ListsFull => false,
-    }
+    matches!(why, End::NothingLeft) && matches!(next, Next::Ends)
 }
 
 // ---- the turn
 
 // So many bytes more can be counted, and a record after those that they may hold.
+#[tactic(auto, unfolding(crate::specs::Turns::countable))]
 fn can_count(records: u64, bytes: u64, n: u64) -> bool
     ensures { result ≡ countable records bytes n }
 {
-    if records >= MOST - n {
-        return false;
-    }
-    bytes <= MOST - n
+    records < u64::MAX - n && bytes <= u64::MAX - n
 }
 
 // What is held is in a buffer of so many bytes and can be counted, and a longest line has room for the notes.
+#[tactic(auto, unfolding(crate::specs::Turns::is_ready, crate::specs::Turns::buffers_fit))]
 fn is_ready(held: Held, records: u64, bytes: u64, size: usize, room: usize) -> bool
     ensures { result ≡ is_ready held records bytes size room }
 {
-    if !intake::is_within(held, size) {
-        return false;
-    }
-    if room < replay_text::LINE_ROOM {
+    if !held.is_within(size) {
         return false;
     }
     let n = held.filled - held.place;
-    can_count(records, bytes, n as u64)
+    room >= replay_text::LINE_ROOM && can_count(records, bytes, n as u64)
 }
 
 // Makes one turn. Where it cannot be made, nothing changes and it fails.
@@ -190,50 +161,45 @@ pub fn turn(
         ≡ turn_made standing input.old notes.old arrivals.old ids.old octets.old }
 {
     let held = standing.held;
-    let place = held.place;
-    let filled = held.filled;
-    let told = held.told;
-    let records_before = standing.records;
-    let bytes_before = standing.bytes;
-    if !is_ready(held, records_before, bytes_before, input.len(), notes.len()) {
+    if !is_ready(
+        held,
+        standing.records,
+        standing.bytes,
+        input.len(),
+        notes.len(),
+    ) {
         return Turned {
             standing,
             written: 0,
             next: Next::Fails,
         };
     }
-    let before = standing.bridge;
     let part = replay_gathering::gather_part(
-        &input[place..filled],
-        before,
+        &input[held.place..held.filled],
+        standing.bridge,
         arrivals,
         ids,
         octets,
         standing.count,
     );
-    let bridge = part.bridge;
     let why = part.why;
-    let count = part.count;
-    let records = records_before + part.records as u64;
-    let bytes = bytes_before + part.at as u64;
-    let next = next_of(why, told);
+    let records = standing.records + part.records as u64;
+    let bytes = standing.bytes + part.at as u64;
+    let next = next_of(why, held.told);
     let note = note_of(why, next, records, bytes);
-    let whole = is_whole(why, next);
     let written = replay_text::put_note(notes, 0, note);
     let left = Held {
-        place: place + part.at,
-        filled,
-        told,
+        place: held.place + part.at,
+        ..held
     };
-    let kept = intake::keep_for(input, left, next);
     Turned {
         standing: Standing {
-            bridge,
+            bridge: part.bridge,
             records,
             bytes,
-            count,
-            whole,
-            held: kept,
+            count: part.count,
+            whole: is_whole(why, next),
+            held: left.keep_for(input, next),
         },
         written,
         next,

@@ -1,43 +1,36 @@
 -- Laws of the numbers that lent bytes are: digit by digit, and clipped at any digit. Assumes nothing.
 use mathlib.Core.Path.{◌≡◌, refl, sym, ap, ◌∙◌}
-use mathlib.Core.Bool.{true, false, ◌&&◌}
+use mathlib.Core.Bool.{Bool, true, false, cond, ◌&&◌}
 use mathlib.Core.List.{List, [], ◌∷◌}
+use Rattle.std.specs.Prelude.{None, Some}
 use Prim.Native.Nat.{ℕ, suc, ◌+◌, ◌-◌, ◌*◌, ◌≤◌, ◌<◌, min}
 use native.Mathlib.Numerals.{add-one}
 use native.Mathlib.Omega.{arith}
-use borrow.Author.Tests.{le-leb, lt-leb, leb-true}
-use lib.Dec.{leb}
 use lib.ListN.{length, get_or, drop, drop_of_length-le}
 use lib.Seq.{drop-cons}
-use Rattle.quantity.proofs.Booleans.{both}
-use Rattle.text.specs.declared.Numeral.TheVariants.{Is, NoNumber}
 use Rattle.text.specs.Numeral.{most, is_digit, are_digits, value_from, numeral_of}
 
 -- ---- one byte
-pub below_digits : (b : ℕ) → b < 48 → is_digit b ≡ false
-unfolding is_digit
-below_digits b h = rw (lt-leb 48 b h)
+pub no_digit_is : (t : Bool) (n : ℕ) → None ≡ cond t (Some n) None → t ≡ false
+no_digit_is true n e = cc
+no_digit_is false n e = refl
 
-pub from_digits : (b : ℕ) → 48 ≤ b → is_digit b ≡ leb b 57
-unfolding is_digit
-from_digits b h = rw (le-leb 48 b h)
-
-pub digit_range : (b : ℕ) → is_digit b ≡ true → (48 ≤ b) × (b ≤ 57)
-unfolding is_digit
-digit_range b e = let t = both (leb 48 b) (leb b 57) e in (leb-true 48 b t.0, leb-true b 57 t.1)
+pub digit_is : (t : Bool) (n d : ℕ) → Some d ≡ cond t (Some n) None → (t ≡ true) × (d ≡ n)
+digit_is true n d e = (refl, cc)
+digit_is false n d e = cc
 
 -- ---- a list of bytes
-pub no_number : (l : List ℕ) → are_digits l ≡ false → NoNumber ≡ numeral_of l
+pub no_number : (l : List ℕ) → are_digits l ≡ false → None ≡ numeral_of l
 unfolding numeral_of
 no_number [] e = refl
 no_number (b ∷ l) e = rw e
 
-pub none_at_all : (l : List ℕ) → length l ≡ 0 → NoNumber ≡ numeral_of l
+pub none_at_all : (l : List ℕ) → length l ≡ 0 → None ≡ numeral_of l
 unfolding numeral_of
 none_at_all [] e = refl
 none_at_all (b ∷ l) e = absurd (omega arith)
 
-a_number : (l : List ℕ) → 0 < length l → are_digits l ≡ true → Is (min (value_from 0 l) most) ≡ numeral_of l
+a_number : (l : List ℕ) → 0 < length l → are_digits l ≡ true → Some (min (value_from 0 l) most) ≡ numeral_of l
 unfolding numeral_of
 a_number [] h e = absurd (omega arith)
 a_number (b ∷ l) h e = rw e
@@ -67,7 +60,7 @@ module _ (l : List ℕ) (n i : ℕ) (r : Reading l n i) where
   unfolding are_digits
   digits_here h = rw (drop-cons l i 0 h) at r.digits
 
-  pub no_digit : i < length l → is_digit (get_or l i 0) ≡ false → NoNumber ≡ numeral_of l
+  pub no_digit : i < length l → is_digit (get_or l i 0) ≡ false → None ≡ numeral_of l
   no_digit h e = let d : false ≡ are_digits l = rw e at (digits_here h) in no_number l (sym d)
 
   pub digit_on : i < length l → is_digit (get_or l i 0) ≡ true → (m : ℕ) → m ≡ min (n * 10 + (get_or l i 0 - 48)) most → Reading l m (i + 1)
@@ -82,7 +75,7 @@ module _ (l : List ℕ) (n i : ℕ) (r : Reading l n i) where
         ∙ (rw (drop-cons l i 0 h) at r.value));
   }
 
-pub all_read : (l : List ℕ) (n i : ℕ) → Reading l n i → 0 < length l → length l ≤ i → Is n ≡ numeral_of l
+pub all_read : (l : List ℕ) (n i : ℕ) → Reading l n i → 0 < length l → length l ≤ i → Some n ≡ numeral_of l
 unfolding are_digits value_from
 all_read l n i r h d =
     let end = drop_of_length-le l d in
@@ -90,4 +83,4 @@ all_read l n i r h d =
     let value : min n most ≡ min (value_from 0 l) most = rw end at r.value in
     let small = r.small in
     let same : n ≡ min (value_from 0 l) most = omega arith in
-    ap Is same ∙ a_number l h (sym digits)
+    ap Some same ∙ a_number l h (sym digits)

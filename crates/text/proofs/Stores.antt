@@ -1,14 +1,14 @@
 -- Laws of runs of stores: one more in front of a run, and what a run does where it fits. Assumes nothing.
 use mathlib.Core.Path.{◌≡◌, refl, sym, ap, ◌∙◌}
 use mathlib.Core.Bool.{Bool, true, false}
-use mathlib.Core.List.{List, [], ◌∷◌, ◌++◌}
+use mathlib.Core.List.{List, [], ◌∷◌, append_assoc}
 use Prim.Native.Nat.{ℕ, suc, ◌+◌, ◌-◌, ◌/◌, ◌%◌, ◌^◌, ◌≤◌, ◌<◌}
-use native.Mathlib.Nat.{add-zero}
-use native.Mathlib.Numerals.{add-one}
 use native.Mathlib.Omega.{arith}
 use lib.Dec.{leb}
-use lib.ListN.{length, set, get_or, take}
-use lib.Seq.{sets, length-sets, set_comm, take-suc, take_all, length-take-le}
+use lib.ListN.{length, set, take, drop}
+use lib.Seq.{sets, sets-eq, length-sets, set_comm}
+use Rattle.std.proofs.lemmas.List.{drop-drop}
+use borrow.Rule.Slice.PartMut.{put_mid}
 use borrow.Author.Tests.{le-leb, lt-leb, leb-true}
 use Rattle.quantity.proofs.Booleans.{cond_true, cond_false}
 use Rattle.text.specs.Decimal.{last_digits, digit_count, decimal}
@@ -44,6 +44,10 @@ module _ (l : List ℕ) (at : ℕ) (ts : List ℕ) where
   unfolding placed
   fits h = sym (cond_true (leb (at + length ts) (length l)) (record { next = at + length ts; bytes = sets l at ts }) (record { next = at; bytes = l }) (le-leb _ _ h))
 
+  pub no_room : leb (at + length ts) (length l) ≡ false → record { next = at; bytes = l } ≡ placed l at ts
+  unfolding placed
+  no_room e = sym (cond_false (leb (at + length ts) (length l)) (record { next = at + length ts; bytes = sets l at ts }) (record { next = at; bytes = l }) e)
+
   pub too_long : length l < at + length ts → record { next = at; bytes = l } ≡ placed l at ts
   unfolding placed
   too_long h = sym (cond_false (leb (at + length ts) (length l)) (record { next = at + length ts; bytes = sets l at ts }) (record { next = at; bytes = l }) (lt-leb _ _ h))
@@ -58,24 +62,14 @@ decimal_fits l out at k n e h w =
     ∙ ap (λ (b : List ℕ). record { next = at + length (decimal n); bytes = b }) p
     ∙ fits l at (decimal n) (omega (arith, q))
 
--- ---- a text, one byte after the other
-after_run : (ts l : List ℕ) (at v : ℕ) → set (sets l at ts) (at + length ts) v ≡ sets l at (ts ++ (v ∷ []))
-after_run [] l at v = rw (add-zero at)
-after_run (x ∷ ts) l at v =
-    let e : at + suc (length ts) ≡ suc at + length ts = omega arith in
-    rw e (after_run ts (set l at x) (suc at) v)
+-- a text copied over the bytes from a place on
+pub stored : (l out : List ℕ) (at : ℕ) (ts : List ℕ) → at + length ts ≤ length l → out ≡ ts → put_mid at (at + length ts - at) l out ≡ sets l at ts
+stored l out at ts h e =
+    let n : at + length ts - at ≡ length ts = omega arith in
+    rw (e, n, drop-drop (length ts) at l) (sym (sets-eq ts l at h ∙ append_assoc (take at l) ts (drop (at + length ts) l)))
 
-pub text_more : (l out : List ℕ) (at i : ℕ) (text : List ℕ) → i < length text → out ≡ sets l at (take i text) → set out (at + i) (get_or text i 0) ≡ sets l at (take (i + 1) text)
-text_more l out at i text h e =
-    let long : length (take i text) ≡ i = length-take-le i text (omega arith) in
-    let run : set (sets l at (take i text)) (at + i) (get_or text i 0) ≡ sets l at (take i text ++ (get_or text i 0 ∷ [])) =
-    rw long at (after_run (take i text) l at (get_or text i 0)) in
-    rw (e, add-one i, take-suc text i 0 h) run
-
-pub text_fits : (l out : List ℕ) (at i : ℕ) (text : List ℕ) → i ≡ length text → at + i ≤ length l → out ≡ sets l at (take i text) → record { next = at + i; bytes = out } ≡ placed l at text
-text_fits l out at i text n h e =
-    let all : out ≡ sets l at text = e ∙ ap (sets l at) (take_all i text (omega arith)) in
-    rw (all, n) (fits l at text (omega arith))
+pub copied : (l out : List ℕ) (at : ℕ) (ts : List ℕ) → at + length ts ≤ length l → out ≡ ts → record { next = at + length ts; bytes = put_mid at (at + length ts - at) l out } ≡ placed l at ts
+copied l out at ts h e = rw (stored l out at ts h e) (fits l at ts h)
 
 -- the next place is in the lent bytes where the one before is, and the bytes are as many
 pub placed_within : (l : List ℕ) (at : ℕ) (ts : List ℕ) (r : ℕ) (o : List ℕ) → record { next = r; bytes = o } ≡ placed l at ts → at ≤ length l → (r ≤ length o) × (length o ≡ length l)

@@ -1,8 +1,6 @@
 -- The numbers that a program is given are decimal. No sentence of document 01 stands here.
 -- b is a byte, l a list of bytes, v the number that the digits before them say.
-use Rattle.std.specs.Prelude.{ℕ, ◌+◌, ◌-◌, ◌*◌, min, Bool, cond, true, ◌&&◌, List, [], ◌∷◌, leb}
-use Rattle.text.specs.declared.Numeral.{Numeral}
-use Rattle.text.specs.declared.Numeral.TheVariants.{Is, NoNumber}
+use Rattle.std.specs.Prelude.{ℕ, ◌+◌, ◌-◌, ◌*◌, min, Bool, cond, true, ◌&&◌, List, [], ◌∷◌, Option, None, Some, leb}
 
 -- the largest number of 64 bits
 abbrev pub most : ℕ
@@ -22,6 +20,6 @@ value_from v [] = v
 value_from v (b ∷ l) = value_from (v * 10 + (b - 48)) l
 
 -- digits alone, and at least one, are a number; one above the largest of 64 bits is taken as that
-unfoldable pub numeral_of : List ℕ → Numeral
-numeral_of [] = NoNumber
-numeral_of (b ∷ l) = cond (are_digits (b ∷ l)) (Is (min (value_from 0 (b ∷ l)) most)) NoNumber
+unfoldable pub numeral_of : List ℕ → Option ℕ
+numeral_of [] = None
+numeral_of (b ∷ l) = cond (are_digits (b ∷ l)) (Some (min (value_from 0 (b ∷ l)) most)) None

@@ -1,5 +1,5 @@
 -- `listing_turn::list_held` meets its contract. Assumes nothing.
-use Rattle.std.proofs.Common.{◌-◌, ◌≤◌, arith}
+use Rattle.std.proofs.Common.{◌-◌, ◌≤◌, refl, arith}
 use Rattle.intake.specs.Holding.{held_in}
 use Rattle.listing_turn.specs.Turns.{left_held}
 use Rattle.listing_turn.proofs.Making.{turn_made_law, part_used}
@@ -15,4 +15,4 @@ pub returns : goal.returns
 unfolding held_in left_held
 returns c =
     let a = c.args in
-    turn_made_law a.standing a.input.now a.output.now _ _ _ _ _ _ _ _ c.list_part-listed.ensures c.wrapping_add_u64-bytes.ensures.value c.next_of-next.ensures c.put_end_if-written.ensures c.keep_for-kept.ensures
+    turn_made_law a.standing a.input.now a.output.now _ _ _ _ _ _ _ _ c.list_part-listed.ensures refl c.next_of-next.ensures c.put_end_if-written.ensures c.keep_for.ensures

@@ -17,5 +17,5 @@ print_run-requires g c =
       answers₀ = _;
       picked₀ = _;
       moments₀ = _;
-      is = ran_is a.standing a.arrivals.now a.ids.now a.octets.now _ _ c.empty.result c.list_of_u8-answers.result c.list_of_u32-picked.result c.list_of_u64-moments.result _ c.empty.ensures c.run-ran.ensures;
+      is = ran_is a.standing a.arrivals.now a.ids.now a.octets.now _ _ c.empty.result c.list_of-answers.result c.list_of-picked.result c.list_of-moments.result _ c.empty.ensures c.run-ran.ensures;
     }

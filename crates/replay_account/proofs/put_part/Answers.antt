@@ -54,5 +54,5 @@ returns c =
     let test : ltb c.loop-told.k (length (lines_of told a.answers.now a.picked.now a.moments.now)) && leb line_room (length c.loop-told.out - c.loop-told.written) ≡ false =
     ap (λ (n : ℕ). ltb c.loop-told.k n && leb line_room (length c.loop-told.out - c.loop-told.written)) many ∙ sym c.goes_on.ensures ∙ c.loop-told-test.false
     in
-    stops _ _ _ _ _ _ c.loop-told.invariant test _ (c.next_after-next.ensures ∙ ap (next_after a.from c.loop-told.k) (sym many))
+    stops _ _ _ _ _ _ c.loop-told.invariant test _ (c.next_after.ensures ∙ ap (next_after a.from c.loop-told.k) (sym many))
     ∙ ap (λ (ls : List Line). lines_put ls a.from a.out.now) (same_lines a.account told a.answers.now a.picked.now a.moments.now c.shown-told.ensures)

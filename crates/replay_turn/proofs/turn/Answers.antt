@@ -67,4 +67,4 @@ unfolding held_in left_held
 returns c =
     let ready : let a = c.args in is_ready a.standing.held a.standing.records a.standing.bytes (length a.input.now) (length a.notes.now) ≡ true = confirmed c.is_ready.ensures c.if-not-is_ready.false in
     let a = c.args in
-    turn_made_law a.standing a.input.now a.notes.now a.arrivals.now a.ids.now a.octets.now ready _ _ _ _ _ _ _ _ _ _ _ c.gather_part-part.ensures c.next_of-next.ensures c.note_of-note.ensures c.is_whole-whole.ensures c.put_note-written.ensures c.keep_for-kept.ensures
+    turn_made_law a.standing a.input.now a.notes.now a.arrivals.now a.ids.now a.octets.now ready _ _ _ _ _ _ _ _ _ _ _ c.gather_part-part.ensures c.next_of-next.ensures c.note_of-note.ensures c.is_whole.ensures c.put_note-written.ensures c.keep_for.ensures

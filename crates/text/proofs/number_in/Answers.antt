@@ -1,29 +1,28 @@
 -- `text::number_in` meets its contract. The loop's invariant: the digits that are left, after the number so far, say what all say. Assumes nothing.
+use mathlib.Core.Path.{◌∙◌}
+use Prim.Native.Nat.{◌<◌}
 use native.Mathlib.Omega.{arith}
-use Rattle.quantity.proofs.Booleans.{refuted, confirmed}
-use Rattle.text.proofs.Numerals.{none_at_all, digit_range, no_digit, digit_on, all_read}
+use lib.ListN.{length}
+use Rattle.std.proofs.lemmas.Bool.Decides.{nat_tests}
+use Rattle.text.proofs.Numerals.{none_at_all, no_digit_is, digit_is, begins, no_digit, digit_on, all_read}
 use Rattle.text.proofs.number_in.Goals as goal
 
-pub returns-then-bytes-eq0 : goal.returns-then-bytes-eq0
-returns-then-bytes-eq0 c = none_at_all c.args.bytes.now (omega arith)
+pub returns-then-is_empty : goal.returns-then-is_empty
+returns-then-is_empty c = none_at_all c.args.bytes.now (grind (arith, nat_tests))
 
-pub returns-then-not-is_digit : goal.returns-then-not-is_digit
-returns-then-not-is_digit c =
-    let l = c.loop-i in
-    no_digit _ _ _ l.invariant (omega arith) (refuted c.is_digit.ensures c.if-not-is_digit.true)
+pub returns-in_err-digit_of : goal.returns-in_err-digit_of
+returns-in_err-digit_of c =
+    c.from_residual.ensures ∙ no_digit _ _ _ c.loop-byte.invariant c.loop-byte-test.true (no_digit_is _ _ c.in_err-digit_of.ensures)
 
-pub overflow_sub-byte : goal.overflow_sub-byte
-overflow_sub-byte c = omega (arith, digit_range _ (confirmed c.is_digit.ensures c.if-not-is_digit.false))
+pub loop-byte-init : goal.loop-byte-init
+loop-byte-init c = begins _
 
-pub with_digit-n-requires : goal.with_digit-n-requires
-with_digit-n-requires c = omega (arith, digit_range _ (confirmed c.is_digit.ensures c.if-not-is_digit.false))
-
-pub loop-i-preserved : goal.loop-i-preserved
-loop-i-preserved c =
-    let l = c.loop-i in
-    digit_on _ _ _ l.invariant (omega arith) (confirmed c.is_digit.ensures c.if-not-is_digit.false) _ c.with_digit-n.ensures
+pub loop-byte-preserved : goal.loop-byte-preserved
+loop-byte-preserved c =
+    let d = digit_is _ _ _ c.in_ok-digit_of.ensures in
+    digit_on _ _ _ c.loop-byte.invariant c.loop-byte-test.true d.0 _ (rw (← d.1) c.with_digit-n.ensures)
 
 pub returns : goal.returns
 returns c =
-    let l = c.loop-i in
-    all_read _ _ _ l.invariant (omega arith) (omega arith)
+    let some : 0 < length c.args.bytes.now = grind (arith, nat_tests) in
+    all_read _ _ _ c.loop-byte.invariant some (omega arith)

@@ -10,14 +10,13 @@ use Rattle.text.proofs.put_digits.Goals as goal
 
 pub loop-j-init : goal.loop-j-init
 unfolding last_digits
-loop-j-init c = record { some = omega arith; left = sym (div-one c.args.n); written = refl; long = refl }
+loop-j-init c = record { left = sym (div-one c.args.n); written = refl; long = refl }
 
 pub loop-j-preserved : goal.loop-j-preserved
 loop-j-preserved c =
     let l = c.loop-j in
     let a = c.args in
     record {
-      some = omega arith;
       left = next_rest a.n l.j l.rest l.invariant.left;
       written = digit_more a.out.now l.out a.end l.j a.n l.rest (omega arith) l.invariant.left l.invariant.written;
       long = simp length-set l.invariant.long;

@@ -1,28 +1,11 @@
--- `text::put_text` meets its contract. The loop's invariant: the first i bytes of the text stand from the place on. Assumes nothing.
-use native.Mathlib.Omega.{arith}
-use lib.ListN.{length-set}
-use Rattle.text.proofs.Stores.{too_long, text_more, text_fits}
+-- `text::put_text` meets its contract: it fits, or does not. Assumes nothing.
+use borrow.Author.Tests.{leb-true}
+use Rattle.quantity.proofs.Booleans.{refuted, confirmed}
+use Rattle.text.proofs.Stores.{no_room, copied}
 use Rattle.text.proofs.put_text.Goals as goal
 
-pub returns-then-len-at : goal.returns-then-len-at
-returns-then-len-at c = let a = c.args in too_long a.out.now a.at a.text.now (omega arith)
-
-pub returns-then-len-at-2 : goal.returns-then-len-at-2
-returns-then-len-at-2 c = let a = c.args in too_long a.out.now a.at a.text.now (omega arith)
-
-pub loop-i-preserved : goal.loop-i-preserved
-loop-i-preserved c =
-    let l = c.loop-i in
-    let a = c.args in
-    record {
-      within = omega arith;
-      room = l.invariant.room;
-      written = text_more a.out.now l.out a.at l.i a.text.now (omega arith) l.invariant.written;
-      long = simp length-set l.invariant.long;
-    }
+pub returns-then-not-has_room : goal.returns-then-not-has_room
+returns-then-not-has_room c = no_room _ _ _ (refuted c.has_room.ensures c.if-not-has_room.true)
 
 pub returns : goal.returns
-returns c =
-    let l = c.loop-i in
-    let a = c.args in
-    text_fits a.out.now l.out a.at l.i a.text.now (omega arith) (omega arith) l.invariant.written
+returns c = copied _ _ _ _ (leb-true _ _ (confirmed c.has_room.ensures c.if-not-has_room.false)) c.copy_from_slice.ensures.after
