@@ -100,10 +100,7 @@ fn line_at(account: Account, answers: &[u8], picked: &[u32], moments: &[u64], k:
 fn goes_on(k: usize, lines: usize, room: usize) -> bool
     ensures { result ≡ ltb k lines && leb line_room room }
 {
-    if k < lines {
-        return replay_text::LINE_ROOM <= room;
-    }
-    false
+    k < lines && replay_text::LINE_ROOM <= room
 }
 
 // What comes after the lines from the one number up to the other. None where there is some is for want of room.
