@@ -39,19 +39,17 @@ pub fn first_least(waiting: &Waiting, class: u8) -> Option<First>
         return None;
     }
     let base = class as usize * places::PLACES;
-    let mut place = 0;
-    let mut least = waiting.times[base];
-    for k in 1..n {
-        let t = waiting.times[base + k];
-        if t < least {
-            place = k;
-            least = t;
+    let mut first = First {
+        place: 0,
+        time: Ticks(waiting.times[base]),
+    };
+    for place in 1..n {
+        let time = Ticks(waiting.times[base + place]);
+        if time.0 < first.time.0 {
+            first = First { place, time };
         }
     }
-    Some(First {
-        place,
-        time: Ticks(least),
-    })
+    Some(first)
 }
 
 // The smaller of a time and a class's smallest, where there are such.

@@ -23,7 +23,7 @@ use quantity::{Bits, Item, ORDINARY_OVERHEAD, Rate, Refusal, TICKS_PER_SECOND, T
 use records::{Answer, Group};
 
 // Later than the time of any entry.
-const NEVER: u64 = 18_446_744_073_709_551_615;
+const NEVER: u64 = u64::MAX;
 
 // What is noted of a class in which nothing waits.
 const NO_FIRST: First = First {

@@ -5,5 +5,5 @@ use Rattle.std.specs.Prelude.{Some}
 use Rattle.firsts.specs.Firsts.{part, first_from, first_of}
 use Rattle.firsts.proofs.first_least.Given as goal
 
-abbrev pub invariant-loop-k : goal.invariant-loop-k
-invariant-loop-k l = (Some (first_from l.place l.least l.k (part l.waiting.times (l.base + l.k) (l.n - l.k))) ≡ first_of l.waiting.times l.waiting.fills l.class) × ((l.n ≤ 32) × (l.base ≤ 224))
+abbrev pub invariant-loop-place : goal.invariant-loop-place
+invariant-loop-place l = (Some (first_from l.first.place l.first.time.0 l.place (part l.waiting.times (l.base + l.place) (l.n - l.place))) ≡ first_of l.waiting.times l.waiting.fills l.class) × ((l.n ≤ 32) × (l.base ≤ 224))
