@@ -64,6 +64,8 @@ pub struct Failure {
 
 // ---- buffers
 
+// Two functions, since each fixes its number: one over a const length would leave the number to each caller.
+
 // Zeros, as many as a line has room in.
 pub fn buffer() -> [u8; LINE_BYTES]
     ensures zeros { result ≡ replicate 4096 0 }
@@ -241,6 +243,7 @@ pub fn write_out<W: Write>(out: &mut W, bytes: &[u8]) -> Result<(), Unwritten>
 
 // ---- what failed
 
+#[tactic(auto, unfolding(crate::specs::Failures::edge_word))]
 fn put_edge(out: &mut [u8], failure: Failure) -> usize
     ensures { record { next = result; bytes = out.new } ≡ puts out.old 0 (edge_word failure.edge ∷ decimal failure.records ∷ []) }
 {

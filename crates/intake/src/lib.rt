@@ -48,6 +48,14 @@ pub struct Held {
     pub told: Told,
 }
 
+// What a turn did: so many bytes at the front of the output buffer are to be written. S is where the program stands.
+#[derive(Clone, Copy, Drop)]
+pub struct Turned<S> {
+    pub standing: S,
+    pub written: usize,
+    pub next: Next,
+}
+
 // A reading that only would have to wait brought nothing, and there may be more.
 #[tactic(auto, unfolding(crate::specs::Holding::told_unread))]
 fn told_by_failure(why: Unread) -> Told

@@ -10,7 +10,7 @@ use Rattle.console.proofs.Answers.{read_gave}
 use Rattle.listing_turn.specs.Turns.{begun_listing, with_held, Made, turn_made}
 use Rattle.listing_turn.specs.Promises.{MayList, Listed}
 use Rattle.listing_turn.specs.declared.Standing.{Standing}
-use Rattle.listing_turn.specs.declared.Turned.{Turned}
+use Rattle.intake.specs.declared.Turned.{Turned}
 use Rattle.listing_turn.proofs.Making.{turned_within}
 use Rattle.listing_turn.proofs.Protocol.{begin_stands, turn_stands, reading_stands}
 
@@ -34,14 +34,14 @@ begins x l o e =
     }
 
 -- after a turn: what is to be written is in the output buffer, and the program goes on or reads by what comes next
-pub record Turning (input₀ output₀ : List ℕ) (r : Turned) (turn : ℕ) (input output : List ℕ) : Type 0 where
+pub record Turning (input₀ output₀ : List ℕ) (r : Turned Standing) (turn : ℕ) (input output : List ℕ) : Type 0 where
   pub within : Within r.standing.held (length input)
   pub written : r.written ≤ length output
   pub ahead : Listed (length output) turn r.next r.standing input
   pub long : length input ≡ length input₀
   pub wide : length output ≡ length output₀
 
-pub turns : (i₀ o₀ : List ℕ) (x : Standing) (n : ℕ) (i o : List ℕ) (r : Turned) (i₂ o₂ : List ℕ) → Rolling i₀ o₀ x n i o
+pub turns : (i₀ o₀ : List ℕ) (x : Standing) (n : ℕ) (i o : List ℕ) (r : Turned Standing) (i₂ o₂ : List ℕ) → Rolling i₀ o₀ x n i o
     → record { turned = r; input = i₂; output = o₂ } ≡ turn_made x i o → Turning i₀ o₀ r n i₂ o₂
 turns i₀ o₀ x n i o r i₂ o₂ s e =
     let w = turned_within x i o i₂ o₂ r s.within e in
@@ -56,7 +56,7 @@ turns i₀ o₀ x n i o r i₂ o₂ s e =
       wide = w.3 ∙ s.wide;
     }
 
-module _ (i₀ o₀ : List ℕ) (r : Turned) (n : ℕ) (i o : List ℕ) (t : Turning i₀ o₀ r n i o) where
+module _ (i₀ o₀ : List ℕ) (r : Turned Standing) (n : ℕ) (i o : List ℕ) (t : Turning i₀ o₀ r n i o) where
   -- it goes on
   pub rolls_on : r.next ≡ GoesOn → Rolling i₀ o₀ r.standing (n + 1) i o
   rolls_on q = record {

@@ -9,12 +9,12 @@ ghost use Rattle.listing_turn.specs.Turns.{turn_made};
 ghost use Rattle.listing_turn.specs.Promises.{MayList};
 
 use console::{Edge, Failure};
-use intake::Next;
-use listing_turn::{Standing, Turned};
+use intake::{Next, Turned};
+use listing_turn::Standing;
 use std::io::{Read, Write};
 
 // Makes the turn of this number, where the program may.
-fn list_on(input: &mut [u8], output: &mut [u8], standing: Standing, turn: u64) -> Turned
+fn list_on(input: &mut [u8], output: &mut [u8], standing: Standing, turn: u64) -> Turned<Standing>
     requires { Within standing.held (length input.old) × MayList (length output.old) turn standing input.old }
     ensures { record { turned = result; input = input.new; output = output.new } ≡ turn_made standing input.old output.old }
 {
@@ -24,6 +24,7 @@ fn list_on(input: &mut [u8], output: &mut [u8], standing: Standing, turn: u64) -
 // Turn after turn. A proved loop has to end, and nothing says that an input does: the turns are counted, up to a number
 // that no run reaches. Of a writing that fails, the records are those whose lines were written whole before, and the
 // bytes those written.
+// The replay's loops share no more with it than the match on what comes next: a function of that would take three closures over the same state.
 fn list_all<R: Read, W: Write, E: Write>(
     stdin: &mut R,
     stdout: &mut W,

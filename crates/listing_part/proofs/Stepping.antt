@@ -13,13 +13,9 @@ use Rattle.tablefile.specs.declared.Record.{Record}
 use Rattle.tablefile.specs.declared.Record.TheVariants as made
 use Rattle.tablefile.specs.declared.Reading.{Reading}
 use Rattle.tablefile.specs.declared.Reading.TheVariants.{Found, NothingLeft, Refused}
-use Rattle.records.specs.Numbers.{answer_number}
-use Rattle.records.specs.declared.Answer.{Answer}
 use Rattle.listing_text.specs.Places.{line_room, most_lines}
 use Rattle.listing_part.specs.Parts.{Part, may_go_on, going_on}
-use Rattle.listing_part.specs.Steps.{shown_of, frame_answer, next_step}
-use Rattle.std.specs.Prelude.{Option}
-use Rattle.quantity.specs.declared.Ticks.{Ticks}
+use Rattle.listing_part.specs.Steps.{next_step}
 use Rattle.listing_part.specs.declared.Step.{Step}
 use Rattle.listing_part.specs.declared.Step.TheVariants.{Ends, Goes}
 
@@ -125,10 +121,3 @@ mark_letters (made.Group i c M) = refl
 mark_letters (made.GroupDefault i c) = refl
 mark_letters (made.Stream i k r u) = refl
 mark_letters (made.Frame i n A) = refl
-
--- ---- answers
-
-pub shows : (a : Answer) (k : ℕ) (s : Option Ticks) → k ≡ answer_number a → s ≡ shown_of a → record { number = k; time = s } ≡ frame_answer a
-unfolding frame_answer
-shows a k s e f =
-    ap (λ (i : ℕ). record { number = i; time = s }) e ∙ ap (λ (t : Option Ticks). record { number = answer_number a; time = t }) f

@@ -42,6 +42,7 @@ pub struct Listed {
 
 // ---- what a record does, and what it shows
 
+#[tactic(auto, unfolding(crate::specs::Steps::set_up_answer))]
 fn set_up_answer(answer: Result<(), Refusal>) -> Answered
     ensures { result ≡ set_up_answer answer }
 {
@@ -51,16 +52,13 @@ fn set_up_answer(answer: Result<(), Refusal>) -> Answered
     }
 }
 
+#[tactic(auto, unfolding(crate::specs::Steps::frame_answer, crate::specs::Steps::shown_of))]
 fn frame_answer(answer: Answer) -> Answered
     ensures { result ≡ frame_answer answer }
 {
     let number = records::answer_number(answer);
     match answer {
-        Answer::Released(time) => Answered {
-            number,
-            time: Some(time),
-        },
-        Answer::Discarded(time) => Answered {
+        Answer::Released(time) | Answer::Discarded(time) => Answered {
             number,
             time: Some(time),
         },

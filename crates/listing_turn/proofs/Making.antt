@@ -23,7 +23,7 @@ use Rattle.listing_turn.specs.Promises.{TurnWithin, TurnLeaves, TurnMakesRoom}
 use Rattle.intake.proofs.Keeping.{length_part}
 use Rattle.listing_turn.specs.Turns.{next_of, end_if, end_put_if, turn_of, list_turn, reached_by, left_held, Made, made_of, held_listed, nothing_listed, turn_made}
 use Rattle.listing_turn.specs.declared.Standing.{Standing}
-use Rattle.listing_turn.specs.declared.Turned.{Turned}
+use Rattle.intake.specs.declared.Turned.{Turned}
 use Rattle.listing_turn.proofs.Nexts.{end_may}
 use Rattle.listing_turn.proofs.Moving.{kept_is_short}
 
@@ -170,7 +170,7 @@ pub counts : (n : ℕ) (l : List ℕ) → n ≤ length l → n ≡ length (take 
 counts n l h = sym (length-take-le n l h)
 
 -- and so does the call
-pub turned_within : (x : Standing) (i o i₂ o₂ : List ℕ) (r : Turned) → Within x.held (length i) → record { turned = r; input = i₂; output = o₂ } ≡ turn_made x i o
+pub turned_within : (x : Standing) (i o i₂ o₂ : List ℕ) (r : Turned Standing) → Within x.held (length i) → record { turned = r; input = i₂; output = o₂ } ≡ turn_made x i o
     → Within r.standing.held (length i₂) × (r.written ≤ length o₂) × (length i₂ ≡ length i) × (length o₂ ≡ length o)
 unfolding KeptWell
 turned_within x i o i₂ o₂ r w e = subst (KeptWell i o) (sym e) (turn_within x i o w)

@@ -18,10 +18,10 @@ use Rattle.intake.specs.Sessions.{Turn}
 use Rattle.intake.specs.declared.Held.{Held}
 use Rattle.intake.specs.declared.Told.{Told}
 use Rattle.intake.specs.declared.Told.TheVariants.{More, Ended, Failed}
+use Rattle.intake.specs.declared.Turned.{Turned}
 use Rattle.intake.specs.declared.Next.{Next}
 use Rattle.intake.specs.declared.Next.TheVariants.{GoesOn, Reads, Ends, Fails}
 use Rattle.listing_turn.specs.declared.Standing.{Standing}
-use Rattle.listing_turn.specs.declared.Turned.{Turned}
 
 -- ---- what comes next
 
@@ -98,7 +98,7 @@ left_held h used = record { place = h.place + used; filled = h.filled; told = h.
 
 -- the call's answer, and both buffers after it
 pub record Made : Type 0 where
-  pub turned : Turned
+  pub turned : Turned Standing
   pub input : List ℕ
   pub output : List ℕ
 

@@ -8,7 +8,7 @@ ghost use Rattle.intake.specs.Holding.{Within};
 ghost use Rattle.listing_turn.specs.Turns.{unended, closing, at_edge, next_of, end_put_if, begun_listing, held_listed, turn_made};
 
 use bridge::Bridge;
-use intake::{Held, Next, Told};
+use intake::{Held, Next, Told, Turned};
 use quantity::Refusal;
 use tablefile::Reading;
 
@@ -21,14 +21,6 @@ pub struct Standing {
     pub bytes: u64,
     // What of the input stands in the buffer and is still to be listed.
     pub held: Held,
-}
-
-// What a turn did: so many bytes at the front of the output buffer are to be written.
-#[derive(Clone, Copy, Drop)]
-pub struct Turned {
-    pub standing: Standing,
-    pub written: usize,
-    pub next: Next,
 }
 
 // Nothing was listed yet.
@@ -112,7 +104,7 @@ fn put_end_if(output: &mut [u8], at: usize, count: u64, reading: Reading, next: 
 }
 
 // Lists what is held.
-fn list_held(input: &mut [u8], output: &mut [u8], standing: Standing) -> Turned
+fn list_held(input: &mut [u8], output: &mut [u8], standing: Standing) -> Turned<Standing>
     requires { Within standing.held (length input.old) }
     ensures { record { turned = result; input = input.new; output = output.new } ≡ held_listed standing input.old output.old }
 {
@@ -145,7 +137,7 @@ fn list_held(input: &mut [u8], output: &mut [u8], standing: Standing) -> Turned
 }
 
 // Makes one turn. What says that it holds bytes which are not in the buffer cannot be listed: nothing changes.
-pub fn turn(input: &mut [u8], output: &mut [u8], standing: Standing) -> Turned
+pub fn turn(input: &mut [u8], output: &mut [u8], standing: Standing) -> Turned<Standing>
     ensures { record { turned = result; input = input.new; output = output.new } ≡ turn_made standing input.old output.old }
 {
     if !standing.held.is_within(input.len()) {

@@ -11,7 +11,7 @@ use Rattle.replay_text.specs.Lines.{line_room}
 use Rattle.replay_turn.specs.Turns.{begun_reading, Made, turn_made}
 use Rattle.replay_turn.specs.Protocol.{Places, MayGather, Open, with_held}
 use Rattle.replay_turn.specs.declared.Standing.{Standing}
-use Rattle.replay_turn.specs.declared.Turned.{Turned}
+use Rattle.intake.specs.declared.Turned.{Turned}
 use Rattle.replay_turn.proofs.Promises.{turn_within}
 use Rattle.replay_turn.proofs.Protocol.{begin_stands, turn_stands, reading_stands}
 
@@ -48,7 +48,7 @@ begins x input notes arrivals ids octets e room lists =
     }
 
 -- after a turn: what is to be written is in the notes, and the program goes on, reads or ends by what comes next
-pub record Turning (input₀ notes₀ : List ℕ) (r : Turned) (turn : ℕ) (input notes arrivals ids octets : List ℕ) : Type 0 where
+pub record Turning (input₀ notes₀ : List ℕ) (r : Turned Standing) (turn : ℕ) (input notes arrivals ids octets : List ℕ) : Type 0 where
   pub within : Within r.standing.held (length input)
   pub written : r.written ≤ length notes
   pub ahead : Open places turn r.next r.standing input arrivals ids octets
@@ -74,12 +74,12 @@ made_turning i₀ n₀ x k i n a d o s =
       };
     }
 
-pub turns : (i₀ n₀ : List ℕ) (x : Standing) (k : ℕ) (i n a d o : List ℕ) (r : Turned) (i₂ n₂ a₂ d₂ o₂ : List ℕ) → Rolling i₀ n₀ x k i n a d o
+pub turns : (i₀ n₀ : List ℕ) (x : Standing) (k : ℕ) (i n a d o : List ℕ) (r : Turned Standing) (i₂ n₂ a₂ d₂ o₂ : List ℕ) → Rolling i₀ n₀ x k i n a d o
     → record { turned = r; input = i₂; notes = n₂; arrivals = a₂; ids = d₂; octets = o₂ } ≡ turn_made x i n a d o → Turning i₀ n₀ r k i₂ n₂ a₂ d₂ o₂
 turns i₀ n₀ x k i n a d o r i₂ n₂ a₂ d₂ o₂ s e =
     subst (λ (m : Made). Turning i₀ n₀ m.turned k m.input m.notes m.arrivals m.ids m.octets) (sym e) (made_turning i₀ n₀ x k i n a d o s)
 
-module _ (i₀ n₀ : List ℕ) (r : Turned) (k : ℕ) (i n a d o : List ℕ) (t : Turning i₀ n₀ r k i n a d o) where
+module _ (i₀ n₀ : List ℕ) (r : Turned Standing) (k : ℕ) (i n a d o : List ℕ) (t : Turning i₀ n₀ r k i n a d o) where
   -- it goes on
   pub rolls_on : r.next ≡ GoesOn → Rolling i₀ n₀ r.standing (k + 1) i n a d o
   rolls_on q = record {

@@ -15,11 +15,11 @@ ghost use Rattle.replay_account.specs.Promises.{MayTell};
 ghost use Rattle.replay.specs.Replaying.{Replayed};
 
 use console::{Edge, Failure};
-use intake::Next;
+use intake::{Next, Turned};
 use line::Ran;
 use quantity::{Rate, Ticks};
 use replay_account::{Account, Part};
-use replay_turn::{Standing, Turned};
+use replay_turn::Standing;
 use std::env::{Env, FillError};
 use std::io::{Read, Write};
 
@@ -83,7 +83,7 @@ fn gather_on(
     octets: &mut [u16],
     standing: Standing,
     turn: u64,
-) -> Turned
+) -> Turned<Standing>
     requires { Within standing.held (length input.old) × (line_room ≤ length notes.old) × MayGather 65536 turn standing input.old arrivals.old ids.old octets.old }
     ensures { record { turned = result; input = input.new; notes = notes.new; arrivals = arrivals.new; ids = ids.new; octets = octets.new }
         ≡ turn_made standing input.old notes.old arrivals.old ids.old octets.old }

@@ -129,6 +129,7 @@ pub fn put_part(
 {
     let told = shown(account, answers.len(), picked.len(), moments.len());
     let lines = told.frames + told.picks + 1;
+    // No `for`: the number that it comes to is handed back, and a `for` would have to give it in two places.
     let mut k = from;
     let mut written: usize = 0;
     while goes_on(k, lines, out.len() - written) {

@@ -12,6 +12,7 @@ use Rattle.intake.specs.Sessions.{Turn}
 use Rattle.intake.specs.declared.Held.{Held}
 use Rattle.intake.specs.declared.Told.{Told}
 use Rattle.intake.specs.declared.Told.TheVariants.{More, Ended, Failed}
+use Rattle.intake.specs.declared.Turned.{Turned}
 use Rattle.intake.specs.declared.Next.{Next}
 use Rattle.intake.specs.declared.Next.TheVariants as next
 use Rattle.replay_gathering.specs.Gathering.{Outcome, gather_from, begun}
@@ -22,7 +23,6 @@ use Rattle.replay_text.specs.Notes.{note_text}
 use Rattle.replay_text.specs.declared.Note.{Note}
 use Rattle.replay_text.specs.declared.Note.TheVariants as note
 use Rattle.replay_turn.specs.declared.Standing.{Standing}
-use Rattle.replay_turn.specs.declared.Turned.{Turned}
 use Rattle.replay_turn.specs.Gathered.{Yard, Final}
 
 -- ---- what comes next
@@ -156,7 +156,7 @@ left_held h used = record { place = h.place + used; filled = h.filled; told = h.
 
 -- the call's answer, and the buffers and the lists after it
 pub record Made : Type 0 where
-  pub turned : Turned
+  pub turned : Turned Standing
   pub input : List ℕ
   pub notes : List ℕ
   pub arrivals : List ℕ

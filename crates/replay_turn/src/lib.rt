@@ -8,7 +8,7 @@ ghost use Rattle.text.specs.Numeral.{most};
 ghost use Rattle.replay_turn.specs.Turns.{at_edge, next_of, unread_note, note_of, whole_by, countable, is_ready, begun_reading, turn_made};
 
 use bridge::Bridge;
-use intake::{Held, Next, Told};
+use intake::{Held, Next, Told, Turned};
 use quantity::Refusal;
 use replay_gathering::End;
 use replay_text::Note;
@@ -26,14 +26,6 @@ pub struct Standing {
     pub whole: bool,
     // What of the input stands in the buffer and is still to be gathered.
     pub held: Held,
-}
-
-// What a turn did: so many bytes at the front of the notes are to be written.
-#[derive(Clone, Copy, Drop)]
-pub struct Turned {
-    pub standing: Standing,
-    pub written: usize,
-    pub next: Next,
 }
 
 // Nothing was read yet.
@@ -156,7 +148,7 @@ pub fn turn(
     ids: &mut [u8],
     octets: &mut [u16],
     standing: Standing,
-) -> Turned
+) -> Turned<Standing>
     ensures { record { turned = result; input = input.new; notes = notes.new; arrivals = arrivals.new; ids = ids.new; octets = octets.new }
         ≡ turn_made standing input.old notes.old arrivals.old ids.old octets.old }
 {

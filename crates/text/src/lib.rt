@@ -44,6 +44,8 @@ fn put_digits(out: &mut [u8], end: usize, k: usize, n: u64)
     }
 }
 
+// The bytes and the place stay two: of a struct that lends them, a caller's proof knows the bytes in the end only by names that the kit keeps for itself.
+
 // Puts a number in decimal at a place.
 pub fn put_decimal(out: &mut [u8], at: usize, n: u64) -> usize
     ensures { record { next = result; bytes = out.new } ≡ placed out.old at (decimal n) }
