@@ -10,7 +10,7 @@ use calls::{judge_at, place_group, place_stream};
 use quantity::{Bits, Item, Rate, Refusal, Ticks, place_of};
 use records::{Answer, Group, Regulator, Stream};
 
-#[derive(Clone, Copy, Drop)]
+#[derive(Clone, Copy)]
 pub struct Bridge {
     pub groups: [Group; 16],
     pub streams: [Stream; 64],

@@ -18,7 +18,7 @@ pub struct Placed<R> {
     pub after: R,
 }
 
-// Document 01's number of a set-up's answer.
+// Document 01's number of a set-up's answer. A call: no crate may give the library's Result a `From`.
 pub fn set_up_number(answer: Result<(), Refusal>) -> u8
     ensures { result ≡ set_up_number answer }
 {

@@ -12,7 +12,7 @@ use places::{Entry, Picked, Waiting};
 use quantity::{Item, Refusal, Ticks};
 
 // The class to pick from, and the place in it of the entry that goes first. Public for definitions of other crates.
-#[derive(Clone, Copy, Drop)]
+#[derive(Clone, Copy)]
 pub struct Due {
     pub class: u8,
     pub place: usize,

@@ -33,7 +33,7 @@ pub const LARGE_BYTES: usize = 65_536;
 const WORDS_BYTES: usize = 256;
 
 // What a reading brought: how many bytes, or the number of its error, and what is held after it.
-#[derive(Clone, Copy, Drop)]
+#[derive(Clone, Copy)]
 pub struct Came {
     pub got: Result<usize, i32>,
     pub held: Held,
@@ -41,21 +41,21 @@ pub struct Came {
 
 // What was written of bytes that were not all written, and the number of the last call's error, which is 0 where it had
 // none.
-#[derive(Clone, Copy, Drop)]
+#[derive(Clone, Copy)]
 pub struct Unwritten {
     pub count: usize,
     pub error: i32,
 }
 
 // Which of the two failed.
-#[derive(Clone, Copy, Drop)]
+#[derive(Clone, Copy)]
 pub enum Edge {
     Reading,
     Writing,
 }
 
 // What failed, after how many records and bytes.
-#[derive(Clone, Copy, Drop)]
+#[derive(Clone, Copy)]
 pub struct Failure {
     pub edge: Edge,
     pub records: u64,

@@ -9,7 +9,7 @@ ghost use Rattle.event.specs.Next.{arrives_by, next_event, step_for, arrival_ste
 use quantity::{Item, Refusal, Ticks};
 
 // Why a run stopped. A refused run did nothing.
-#[derive(Clone, Copy, Drop)]
+#[derive(Clone, Copy)]
 pub enum Stop {
     // No arrival is left and nothing waits.
     Done,
@@ -22,7 +22,7 @@ pub enum Stop {
 }
 
 // What a run does next. Public for definitions of other crates.
-#[derive(Clone, Copy, Drop)]
+#[derive(Clone, Copy)]
 pub enum Step {
     Ends(Stop),
     Arrival,
@@ -98,7 +98,7 @@ pub fn next_step(
 
 // ---- a stop
 
-// Document 01's number of a stop.
+// Document 01's number of a stop. A call and no `From`: docs/PROMISES.md names it.
 pub fn stop_number(stop: Stop) -> u8
     ensures { result ≡ stop_number stop }
 {

@@ -18,9 +18,9 @@ use records::{Answer, Group, Moment, Regulator, Stream, answer_number};
 
 // A group's record, as C lends it.
 #[repr(C)]
-#[derive(Clone, Copy, Drop)]
+#[derive(Clone, Copy)]
 pub struct GroupRecord {
-    // Whether the group is set up.
+    // Whether the group is set up: C knows no Option.
     pub used: bool,
     pub class: u8,
     pub discards: u32,
@@ -32,9 +32,9 @@ pub struct GroupRecord {
 
 // A stream's record, as C lends it: an exported call takes no enum.
 #[repr(C)]
-#[derive(Clone, Copy, Drop)]
+#[derive(Clone, Copy)]
 pub struct StreamRecord {
-    // Whether the stream is set up.
+    // Whether the stream is set up: C knows no Option.
     pub used: bool,
     pub group: u8,
     // Bits per second, and bits.
@@ -45,21 +45,21 @@ pub struct StreamRecord {
     pub part: u64,
 }
 
-// The number of a set-up, and the record after it.
-#[derive(Clone, Copy, Drop)]
+// The number of a set-up, and the record after it. C is told numbers, and takes no Result.
+#[derive(Clone, Copy)]
 pub struct GroupTold {
     pub number: u8,
     pub group: GroupRecord,
 }
 
-#[derive(Clone, Copy, Drop)]
+#[derive(Clone, Copy)]
 pub struct StreamTold {
     pub number: u8,
     pub stream: StreamRecord,
 }
 
 // The number of a frame's answer, what the caller's eligibility time then is, and the records after it.
-#[derive(Clone, Copy, Drop)]
+#[derive(Clone, Copy)]
 pub struct FrameTold {
     pub number: u8,
     pub time: u64,

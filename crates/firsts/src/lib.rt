@@ -10,7 +10,7 @@ use places::Waiting;
 use quantity::Ticks;
 
 // The entry of a class that goes first: its place in the class, counted from 0 in order of entering, and its time.
-#[derive(Clone, Copy, Drop)]
+#[derive(Clone, Copy)]
 pub struct First {
     pub place: usize,
     pub time: Ticks,

@@ -8,7 +8,7 @@ ghost use Rattle.intake.specs.declared.Told.TheVariants.{Ended, Failed};
 ghost use Rattle.intake.specs.Holding.{nothing_held, is_within, saying, told_unread, came_in, brought_kept, kept_for};
 
 // What the last reading said of the input.
-#[derive(Clone, Copy, Drop)]
+#[derive(Clone, Copy)]
 pub enum Told {
     // There may be more of it.
     More,
@@ -19,7 +19,7 @@ pub enum Told {
 }
 
 // What comes after a turn, once its bytes are written.
-#[derive(Clone, Copy, Drop)]
+#[derive(Clone, Copy)]
 pub enum Next {
     // A turn more, with the same input.
     GoesOn,
@@ -32,7 +32,7 @@ pub enum Next {
 }
 
 // Why a reading has brought nothing.
-#[derive(Clone, Copy, Drop)]
+#[derive(Clone, Copy)]
 pub enum Unread {
     // It only would have to wait.
     Waits,
@@ -41,7 +41,7 @@ pub enum Unread {
 }
 
 // What of the input stands in the buffer and is still to be used: from the one place up to the other.
-#[derive(Clone, Copy, Drop)]
+#[derive(Clone, Copy)]
 pub struct Held {
     pub place: usize,
     pub filled: usize,
@@ -49,7 +49,7 @@ pub struct Held {
 }
 
 // What a turn did: so many bytes at the front of the output buffer are to be written. S is where the program stands.
-#[derive(Clone, Copy, Drop)]
+#[derive(Clone, Copy)]
 pub struct Turned<S> {
     pub standing: S,
     pub written: usize,

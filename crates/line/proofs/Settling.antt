@@ -97,4 +97,3 @@ module _ (b : Bridge) (i n A : ℕ) (T : Ticks) (e : (frame_called b i n A).answ
       let c : q ≡ (get_or b.streams i no_stream).group =
       y ∙ ap (λ (j : ℕ). place_of GroupId (get_or b.streams j no_stream).group) a ∙ place_in GroupId (get_or b.streams i no_stream).group (within GroupId (get_or b.streams i no_stream).group (omega arith) o.id) in
       ap (λ (j : ℕ). get_or b.groups j no_group) c
-

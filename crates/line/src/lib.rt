@@ -32,13 +32,13 @@ const NO_FIRST: First = First {
 };
 
 // What is handed to the queue. Public for definitions of other crates.
-#[derive(Clone, Copy, Drop)]
+#[derive(Clone, Copy)]
 pub struct Handed {
     pub class: u8,
     pub entry: Entry,
 }
 
-#[derive(Clone, Copy, Drop)]
+#[derive(Clone, Copy)]
 pub struct Ran {
     pub stop: Stop,
     // The place of the next arrival.

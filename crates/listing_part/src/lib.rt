@@ -19,15 +19,15 @@ use tablefile::{Reading, Record};
 pub type Carried = WithRecords<Answered>;
 
 // What the listing does next: it ends with what the reader gave, or carries out a record; `next` is the place after it.
-// Public for definitions of other crates.
-#[derive(Clone, Copy, Drop)]
+// No Result: neither step is a failure. Public for definitions of other crates.
+#[derive(Clone, Copy)]
 pub enum Step {
     Ends(Reading),
     Goes { record: Record, next: usize },
 }
 
 // The listing of a part of a file.
-#[derive(Clone, Copy, Drop)]
+#[derive(Clone, Copy)]
 pub struct Listed {
     // The tables after the records that have their lines.
     pub bridge: Bridge,

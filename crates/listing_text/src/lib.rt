@@ -22,7 +22,7 @@ pub const END_ROOM: usize = 25;
 pub const MOST_LINES: u64 = u64::MAX;
 
 // What a line shows of a call: document 01's number, and T where there is one.
-#[derive(Clone, Copy, Drop)]
+#[derive(Clone, Copy)]
 pub struct Answered {
     pub number: u8,
     pub time: Option<Ticks>,

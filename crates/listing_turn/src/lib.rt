@@ -13,7 +13,7 @@ use quantity::Refusal;
 use tablefile::Reading;
 
 // Where a listing stands.
-#[derive(Clone, Copy, Drop)]
+#[derive(Clone, Copy)]
 pub struct Standing {
     pub bridge: Bridge,
     // The lines so far, and the bytes of their records, modulo 2^64.

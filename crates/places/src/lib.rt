@@ -19,7 +19,7 @@ pub const FULL: u8 = PLACES as u8;
 
 // The entries of class c stand from place 32·c on, in order of entering; as many as its fill says.
 // Four arrays and not one of entries: `ReachedIsSound` and the other theorems of `waiting` speak of these fields.
-#[derive(Clone, Copy, Drop)]
+#[derive(Clone, Copy)]
 pub struct Waiting {
     pub times: [u64; 256],
     pub handles: [u32; 256],
@@ -28,7 +28,7 @@ pub struct Waiting {
 }
 
 // A frame that waits: its handle, its eligibility time and its charged bits.
-#[derive(Clone, Copy, Drop)]
+#[derive(Clone, Copy)]
 pub struct Entry {
     pub handle: u32,
     pub time: Ticks,
@@ -36,7 +36,7 @@ pub struct Entry {
 }
 
 // What a pick answers. Not an Option within a Result: document 01 has three answers, each with a number of its own.
-#[derive(Clone, Copy, Drop)]
+#[derive(Clone, Copy)]
 pub enum Picked {
     // The entry that leaves, and its class.
     Leaves { class: u8, entry: Entry },
@@ -46,7 +46,7 @@ pub enum Picked {
 }
 
 // What a call on a whole `Waiting` answers, and the places after it.
-#[derive(Clone, Copy, Drop)]
+#[derive(Clone, Copy)]
 pub struct After<A> {
     pub answer: A,
     pub waiting: Waiting,

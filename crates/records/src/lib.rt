@@ -12,15 +12,16 @@ pub use sound::sound_group;
 
 // An exact time, of either sign, of a stream of rate r: whole ticks, rounded towards minus infinity, and a remainder
 // below r, counted in r-ths of a tick.
-#[derive(Clone, Copy, Drop)]
+#[derive(Clone, Copy)]
 pub struct Moment {
     pub ticks: i64,
     pub part: u64,
 }
 
-#[derive(Clone, Copy, Drop)]
+#[derive(Clone, Copy)]
 pub struct Group {
-    // Whether the group is set up.
+    // Whether the group is set up. A flag, since a record that is not comes back to C as it was lent, field by field
+    // (`refused_group_stays`); an Option would drop the fields.
     pub used: bool,
     pub class: u8,
     // The residence limit M.
@@ -32,23 +33,24 @@ pub struct Group {
     pub discards: u32,
 }
 
-// What decides how soon a stream may send again. A stream that is not set up is `Unset`.
-#[derive(Clone, Copy, Drop)]
+// What decides how soon a stream may send again. A stream that is not set up is `Unset`. No Option of a bucket, since the
+// other kinds of regulator are to stand beside it.
+#[derive(Clone, Copy)]
 pub enum Regulator {
     Unset,
     // A bucket of so many bits, and the bucket empty time E.
     Bucket { burst: Bits, empty: Moment },
 }
 
-#[derive(Clone, Copy, Drop)]
+#[derive(Clone, Copy)]
 pub struct Stream {
     pub group: u8,
     pub rate: Rate,
     pub regulator: Regulator,
 }
 
-// What becomes of a frame, with its eligibility time T.
-#[derive(Clone, Copy, Drop)]
+// What becomes of a frame, with its eligibility time T. Three answers with a number each, of which two judge the frame.
+#[derive(Clone, Copy)]
 pub enum Answer {
     Released(Ticks),
     Discarded(Ticks),
@@ -70,7 +72,7 @@ pub fn is_set_up(regulator: Regulator) -> bool
     !matches!(regulator, Regulator::Unset)
 }
 
-// Document 01's number of an answer.
+// Document 01's number of an answer. A call and no `From`: docs/PROMISES.md names it, and a refusal's is the refusal's own.
 pub fn answer_number(answer: Answer) -> u8
     ensures { result ≡ answer_number answer }
 {

@@ -15,7 +15,7 @@ use quantity::Ticks;
 use replay_text::Line;
 
 // What there is to tell of a run: the answers to so many frames, so many picks, and how it stopped.
-#[derive(Clone, Copy, Drop)]
+#[derive(Clone, Copy)]
 pub struct Account {
     pub frames: usize,
     pub picks: usize,
@@ -24,7 +24,7 @@ pub struct Account {
 
 // A part of an account: so many bytes at the front of the lent ones, the number of the next line, and what comes after
 // this part.
-#[derive(Clone, Copy, Drop)]
+#[derive(Clone, Copy)]
 pub struct Part {
     pub line: usize,
     pub written: usize,

@@ -13,7 +13,7 @@ use records::{Group, Stream, WithRecords};
 use tablefile::{Reading, Record};
 
 // Why a gathering ended.
-#[derive(Clone, Copy, Drop)]
+#[derive(Clone, Copy)]
 pub enum End {
     // No byte is left.
     NothingLeft,
@@ -26,7 +26,7 @@ pub enum End {
 }
 
 // A set-up that a record asks for. Public, with the type that follows, for definitions of other crates.
-#[derive(Clone, Copy, Drop)]
+#[derive(Clone, Copy)]
 pub enum Wanted {
     Group {
         group: u8,
@@ -42,7 +42,7 @@ pub enum Wanted {
 }
 
 // What a record asks for, and the place after it.
-#[derive(Clone, Copy, Drop)]
+#[derive(Clone, Copy)]
 pub enum Task {
     Ends(End),
     Sets {
@@ -61,7 +61,7 @@ pub enum Task {
 pub type Prepared = WithRecords<Result<(), Refusal>>;
 
 // What a gathering gives beside the lists.
-#[derive(Clone, Copy, Drop)]
+#[derive(Clone, Copy)]
 pub struct Gathered {
     pub why: End,
     // The place where it ended.

@@ -16,7 +16,7 @@ use quantity::Ticks;
 pub const LINE_ROOM: usize = 116;
 
 // A line of the account.
-#[derive(Clone, Copy, Drop)]
+#[derive(Clone, Copy)]
 pub enum Line {
     // `PLACE NUMBER`: the answer to the frame at a place of the lists.
     Answer {
@@ -41,7 +41,7 @@ pub enum Line {
 }
 
 // A line that a replay says of a record on standard error.
-#[derive(Clone, Copy, Drop)]
+#[derive(Clone, Copy)]
 pub enum Note {
     // `record N: set-up refused, NUMBER`
     NotSetUp {

@@ -14,7 +14,7 @@ use replay_gathering::End;
 use replay_text::Note;
 
 // Where the reading stands.
-#[derive(Clone, Copy, Drop)]
+#[derive(Clone, Copy)]
 pub struct Standing {
     pub bridge: Bridge,
     // The records so far, and their bytes.

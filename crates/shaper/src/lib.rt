@@ -8,8 +8,9 @@ mod frame;
 pub use frame::judge;
 use records::{Answer, WithRecords};
 
-// An exact length of time, of a stream of rate r: whole ticks, and a remainder below r, counted in r-ths of a tick.
-#[derive(Clone, Copy, Drop)]
+// An exact length of time, of a stream of rate r: whole ticks, and a remainder below r, counted in r-ths of a tick. Its own
+// type beside `Moment`, from which it differs in the sign of the ticks: a length is no moment.
+#[derive(Clone, Copy)]
 pub struct Span {
     pub ticks: u64,
     pub part: u64,

@@ -10,7 +10,7 @@ ghost use Rattle.tablefile.specs.Answers.{reading_number, written_number};
 
 use quantity::{Rate, Refusal, Ticks};
 
-#[derive(Clone, Copy, Drop)]
+#[derive(Clone, Copy)]
 pub enum Record {
     // GR
     Group {
@@ -38,8 +38,8 @@ pub enum Record {
     },
 }
 
-// What the reader finds at a place.
-#[derive(Clone, Copy, Drop)]
+// What the reader finds at a place. Three answers with a number each: no Option in a Result says them more plainly.
+#[derive(Clone, Copy)]
 pub enum Reading {
     // A record, and the place after it.
     Found { record: Record, next: usize },
@@ -80,7 +80,7 @@ pub fn letters(given: Record) -> [u8; 2]
     }
 }
 
-// Document 01's number for what the reader finds.
+// Document 01's number for what the reader finds. A call and no `From`: docs/PROMISES.md names it.
 pub fn reading_number(reading: Reading) -> u8
     ensures { result ≡ reading_number reading }
 {
