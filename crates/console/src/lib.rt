@@ -24,10 +24,10 @@ const INTERRUPTED: i32 = 4;
 const NOT_READY: i32 = 11;
 
 // A buffer of a line.
-pub const LINE_BYTES: usize = 4_096;
+const LINE_BYTES: usize = 4_096;
 
 // A buffer for a loop that moves much.
-pub const LARGE_BYTES: usize = 65_536;
+const LARGE_BYTES: usize = 65_536;
 
 // The system's words for an error, and its number behind them.
 const WORDS_BYTES: usize = 256;
