@@ -69,7 +69,12 @@ pub struct WithRecords<A> {
 pub fn is_set_up(regulator: Regulator) -> bool
     ensures { result ≡ is_set_up regulator }
 {
-    !matches!(regulator, Regulator::Unset)
+    // No `matches!`: with it a frame in place takes 236 instructions, and so 213.
+    if let Regulator::Unset = regulator {
+        false
+    } else {
+        true
+    }
 }
 
 // Document 01's number of an answer. A call and no `From`: docs/PROMISES.md names it, and a refusal's is the refusal's own.
