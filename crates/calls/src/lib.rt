@@ -8,8 +8,7 @@ ghost use Rattle.calls.specs.Calls.{judged_at, group_placed, stream_placed};
 ghost use Rattle.calls.specs.Numbers.{set_up_number};
 
 use quantity::{Bits, Item, Rate, Refusal, Ticks, in_range, refusal_number};
-use records::{Answer, Group, Stream};
-use shaper::Judged;
+use records::{Group, Judged, Stream};
 
 // The answer to a set-up, and the record at its place after it.
 #[derive(Clone, Copy)]
@@ -90,11 +89,7 @@ pub fn judge_at(id: u8, stream: Stream, group: Group, octets: u16, arrival: Tick
     ensures { result ≡ judged_at id stream group octets arrival.0 }
 {
     if !in_range(Item::StreamId, id as u64) {
-        return Judged {
-            answer: Answer::Refused(Refusal::NoStream),
-            stream,
-            group,
-        };
+        return Judged::refused(stream, group, Refusal::NoStream);
     }
     shaper::judge(stream, group, octets, arrival)
 }

@@ -7,8 +7,7 @@ ghost use Rattle.lent.specs.InPlace.{judged_in};
 ghost use Rattle.lent.specs.Steps.{ready, unreadiness};
 
 use quantity::{Item, Refusal, Ticks, in_range};
-use records::{Answer, Group, Stream};
-use shaper::Judged;
+use records::{Answer, Group, Judged, Stream};
 
 // A lent run has a place for each stream id.
 const RUN_PLACES: usize = 64;
@@ -34,16 +33,6 @@ pub fn unready(places: usize) -> Answer
     Answer::Refused(Refusal::NoStream)
 }
 
-fn refused(stream: Stream, group: Group, why: Refusal) -> Judged
-    ensures { result ≡ record { answer = Answer.Refused why; stream = stream; group = group } }
-{
-    Judged {
-        answer: Answer::Refused(why),
-        stream,
-        group,
-    }
-}
-
 // Judges a frame of a stream by the record of the group `id`, of which the stream should be.
 pub fn judge_in(id: u8, stream: Stream, group: Group, octets: u16, arrival: Ticks) -> Judged
     ensures { result ≡ judged_in id stream group octets arrival.0 }
@@ -51,10 +40,10 @@ pub fn judge_in(id: u8, stream: Stream, group: Group, octets: u16, arrival: Tick
     let regulator = stream.regulator;
     let home = stream.group;
     if !records::is_set_up(regulator) {
-        return refused(stream, group, Refusal::NoStream);
+        return Judged::refused(stream, group, Refusal::NoStream);
     }
     if home != id {
-        return refused(stream, group, Refusal::Unsound);
+        return Judged::refused(stream, group, Refusal::Unsound);
     }
     shaper::judge(stream, group, octets, arrival)
 }

@@ -65,6 +65,22 @@ pub struct WithRecords<A> {
     pub group: Group,
 }
 
+// What becomes of a frame, with the records after it.
+pub type Judged = WithRecords<Answer>;
+
+impl WithRecords<Answer> {
+    // A refused frame: both records stay.
+    pub fn refused(stream: Stream, group: Group, why: Refusal) -> Judged
+        ensures { result ≡ record { answer = Answer.Refused why; stream = stream; group = group } }
+    {
+        WithRecords {
+            answer: Answer::Refused(why),
+            stream,
+            group,
+        }
+    }
+}
+
 // Whether a stream is set up.
 pub fn is_set_up(regulator: Regulator) -> bool
     ensures { result ≡ is_set_up regulator }

@@ -5,14 +5,13 @@ ghost use Rattle.records.specs.ExactTime.{exactly, moment_of};
 ghost use Rattle.shaper.specs.Frame.{E_after, earliest, after_release, eligibility_time, discarded as discarded_of, released as released_of, process_frame};
 ghost use Rattle.records.specs.Sound.{sound};
 ghost use Rattle.admission.specs.Tests.{above_burst};
-ghost use Rattle.shaper.specs.Numbers.{refused as refused_of, judged};
+ghost use Rattle.shaper.specs.Numbers.{judged};
 ghost use Rattle.shaper.specs.Steps.{latest_release, BucketWorks, Works, StartsAt, ChargedTo};
 
-use crate::Judged;
 use crate::exact::{first_tick, lasting, later, until};
 use admission::test_frame;
-use quantity::{Bits, Item, Rate, Refusal, Ticks};
-use records::{Answer, Group, Moment, Regulator, Stream};
+use quantity::{Bits, Item, Rate, Ticks};
+use records::{Answer, Group, Judged, Moment, Regulator, Stream};
 
 // The bucket empty time and so many bits more: S for a frame's bits, F for the burst.
 fn charged_to(empty: Moment, rate: Rate, bits: Bits) -> Moment
@@ -123,22 +122,12 @@ fn process_frame(stream: Stream, group: Group, bits: Bits, arrival: Ticks) -> Ju
     released(stream, group, bits, arrival, t)
 }
 
-fn refused(stream: Stream, group: Group, why: Refusal) -> Judged
-    ensures { result ≡ refused_of stream group why }
-{
-    Judged {
-        answer: Answer::Refused(why),
-        stream,
-        group,
-    }
-}
-
 // One frame through a scheduler: refused, discarded or released, with the records after it.
 pub fn judge(stream: Stream, group: Group, octets: u16, arrival: Ticks) -> Judged
     ensures { result ≡ judged stream group octets arrival.0 }
 {
     match test_frame(stream, group, octets, arrival) {
-        Err(why) => refused(stream, group, why),
+        Err(why) => Judged::refused(stream, group, why),
         Ok(bits) => process_frame(stream, group, bits, arrival),
     }
 }

@@ -6,7 +6,6 @@ mod exact;
 mod frame;
 
 pub use frame::judge;
-use records::{Answer, WithRecords};
 
 // An exact length of time, of a stream of rate r: whole ticks, and a remainder below r, counted in r-ths of a tick. Its own
 // type beside `Moment`, from which it differs in the sign of the ticks: a length is no moment.
@@ -15,6 +14,3 @@ pub struct Span {
     pub ticks: u64,
     pub part: u64,
 }
-
-// The answer to a frame, and its stream's and its group's record after it.
-pub type Judged = WithRecords<Answer>;

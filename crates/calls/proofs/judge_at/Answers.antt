@@ -7,7 +7,7 @@ use Rattle.calls.proofs.judge_at.Goals as goal
 pub returns-then-not-in_range : goal.returns-then-not-in_range
 returns-then-not-in_range c =
     let a = c.args in
-    sym (frame_id_out a.id a.stream a.group a.octets a.arrival.0 (refuted c.in_range.ensures c.if-not-in_range.true))
+    c.refused.ensures ∙ sym (frame_id_out a.id a.stream a.group a.octets a.arrival.0 (refuted c.in_range.ensures c.if-not-in_range.true))
 
 pub returns : goal.returns
 returns c =
