@@ -1,6 +1,6 @@
 // The calls by id on single records: what a set-up or a frame makes of the record at an id's place.
-// The work on one record is `records`' and `shaper`'s; here stand the ids and the order of their refusals. A loop over
-// many calls keeps the tables as its own arrays and makes these calls, so that no table is copied for a frame.
+// The work on one record is `records`' and `shaper`'s; here stand the ids and the order of their refusals; the tables
+// stand above, in `bridge`.
 #![tactic(auto)]
 
 ghost use Rattle.std.specs.Prelude.{◌≡◌};
@@ -10,14 +10,15 @@ ghost use Rattle.calls.specs.Numbers.{set_up_number};
 use quantity::{Bits, Item, Rate, Refusal, Ticks, in_range, refusal_number};
 use records::{Group, Judged, Stream};
 
-// The answer to a set-up, and the record at its place after it.
+// The answer to a set-up, and the record at its place after it. No Result of the record: what stands after a refusal is
+// promised, too (`refused_group_stays`, `refused_stream_stays`).
 #[derive(Clone, Copy)]
 pub struct Placed<R> {
     pub answer: Result<(), Refusal>,
     pub after: R,
 }
 
-// Document 01's number of a set-up's answer. A call: no crate may give the library's Result a `From`.
+// Document 01's number of a set-up's answer. A call: no crate may give `u8` a `From` of the library's Result.
 pub fn set_up_number(answer: Result<(), Refusal>) -> u8
     ensures { result ≡ set_up_number answer }
 {

@@ -11,7 +11,7 @@ ghost use Rattle.classes.specs.Calls.{due_of, enter_gives, pick_gives};
 use places::{Entry, Picked, Waiting};
 use quantity::{Item, Refusal, Ticks};
 
-// The class to pick from, and the place in it of the entry that goes first. Public for definitions of other crates.
+// The class to pick from, and the place in it of the entry that goes first.
 #[derive(Clone, Copy)]
 pub struct Due {
     pub class: u8,

@@ -21,7 +21,7 @@ pub enum Stop {
     Refused(Refusal),
 }
 
-// What a run does next. Public for definitions of other crates.
+// What a run does next.
 #[derive(Clone, Copy)]
 pub enum Step {
     Ends(Stop),
@@ -98,7 +98,7 @@ pub fn next_step(
 
 // ---- a stop
 
-// Document 01's number of a stop. A call and no `From`: docs/PROMISES.md names it.
+// Document 01's number of a stop. A call and no `From`: `u8::from(stop)` would not say which number.
 pub fn stop_number(stop: Stop) -> u8
     ensures { result ≡ stop_number stop }
 {

@@ -52,10 +52,7 @@ fn framed_time(answer: Answer) -> u64 {
 fn entered_number(answer: Result<(), Refusal>) -> u8
     ensures { result ≡ entered_number answer }
 {
-    match answer {
-        Ok(()) => 0,
-        Err(why) => refusal_number(why),
-    }
+    set_up_number(answer)
 }
 
 fn picked_number(answer: Picked) -> u8
@@ -71,7 +68,7 @@ fn picked_number(answer: Picked) -> u8
 // The handle of the entry that leaves.
 fn picked_handle(answer: Picked) -> u32 {
     match answer {
-        Picked::Leaves { class: _, entry } => entry.handle,
+        Picked::Leaves { entry, .. } => entry.handle,
         Picked::Nothing => 0,
         Picked::Refused(_) => 0,
     }

@@ -45,7 +45,8 @@ pub struct StreamRecord {
     pub part: u64,
 }
 
-// The number of a set-up, and the record after it. C is told numbers, and takes no Result.
+// The number of a set-up, and the record after it: numbers, since C is told them. Two types, since the clauses of the
+// exported calls speak of `group` and of `stream`.
 #[derive(Clone, Copy)]
 pub struct GroupTold {
     pub number: u8,

@@ -22,8 +22,8 @@ pub fn is_ready(places: usize, stream: u64) -> bool
     in_range(Item::StreamId, stream)
 }
 
-// The answer where it is not so: the length is looked at first. A call of its own and no Result of `is_ready`:
-// docs/PROMISES.md names both, and `receive` has its place from the stream's id.
+// The answer where it is not so: the length is looked at first. A call of its own and no Result of
+// `is_ready`: the clauses of what C calls have both, `ready` and `unreadiness`.
 pub fn unready(places: usize) -> Answer
     ensures { result ≡ Answer.Refused (unreadiness places) }
 {

@@ -1,5 +1,5 @@
 // The run of a list of arrivals against one line, event by event: an arrival is judged and enters its class, or the
-// entry that goes first leaves for the line. Which is next is `event`'s, judging `bridge`'s, putting and taking out
+// entry that goes first leaves for the line. Which is next is `event`'s, judging `calls`', putting and taking out
 // `places`', the first of a class `firsts`'. Tables and queues are changed in place, and the first of each class is kept
 // beside the queues: no event copies a table.
 #![tactic(auto)]
@@ -327,7 +327,7 @@ fn run_events(
                 events += 1;
             }
             Step::Pick(moment) => {
-                let Picked::Leaves { class: _, entry } = queues.dequeue(moment) else {
+                let Picked::Leaves { entry, .. } = queues.dequeue(moment) else {
                     unreachable!()
                 };
                 picked[picks] = entry.handle;

@@ -169,7 +169,7 @@ pub enum Refusal {
     LineUnfit = 29,
 }
 
-// Document 01's number of a refusal. A call and no `From`: docs/PROMISES.md names it.
+// Document 01's number of a refusal. A call and no `From`: `u8::from(refusal)` would not say which number.
 pub fn refusal_number(refusal: Refusal) -> u8
     ensures { result ≡ number_of refusal }
 {

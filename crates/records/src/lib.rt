@@ -20,8 +20,8 @@ pub struct Moment {
 
 #[derive(Clone, Copy)]
 pub struct Group {
-    // Whether the group is set up. A flag, since a record that is not comes back to C as it was lent, field by field
-    // (`refused_group_stays`); an Option would drop the fields.
+    // Whether the group is set up. A flag and no Option: `sound_group`, `group_placed` and C's record speak of it field by
+    // field.
     pub used: bool,
     pub class: u8,
     // The residence limit M.
@@ -33,8 +33,8 @@ pub struct Group {
     pub discards: u32,
 }
 
-// What decides how soon a stream may send again. A stream that is not set up is `Unset`. No Option of a bucket, since the
-// other kinds of regulator are to stand beside it.
+// What decides how soon a stream may send again. A stream that is not set up is `Unset`. No Option of a bucket: the
+// kinds of regulator that docs/REQUESTS.md announces are to stand beside it.
 #[derive(Clone, Copy)]
 pub enum Regulator {
     Unset,
@@ -49,7 +49,7 @@ pub struct Stream {
     pub regulator: Regulator,
 }
 
-// What becomes of a frame, with its eligibility time T. Three answers with a number each, of which two judge the frame.
+// What becomes of a frame, with its eligibility time T. No Result: a discarded frame is judged too, and has its T.
 #[derive(Clone, Copy)]
 pub enum Answer {
     Released(Ticks),
@@ -57,7 +57,8 @@ pub enum Answer {
     Refused(Refusal),
 }
 
-// An answer, and the stream and the group that it is about, as they stand after it.
+// An answer, and the stream and the group that it is about, as they stand after it. Beside `calls::Placed`, `bridge::Called`
+// and `places::After`, since theorems speak of what stands after an answer by its name.
 #[derive(Clone, Copy)]
 pub struct WithRecords<A> {
     pub answer: A,
@@ -85,7 +86,7 @@ impl WithRecords<Answer> {
 pub fn is_set_up(regulator: Regulator) -> bool
     ensures { result ≡ is_set_up regulator }
 {
-    // No `matches!`: with it a frame in place takes 236 instructions, and so 213.
+    // `matches!` would say it shorter, and costs: with it a frame in place takes 236 instructions, and so 213.
     if let Regulator::Unset = regulator {
         false
     } else {
@@ -93,7 +94,7 @@ pub fn is_set_up(regulator: Regulator) -> bool
     }
 }
 
-// Document 01's number of an answer. A call and no `From`: docs/PROMISES.md names it, and a refusal's is the refusal's own.
+// Document 01's number of an answer. A call and no `From`: `u8::from(answer)` would not say which number.
 pub fn answer_number(answer: Answer) -> u8
     ensures { result ≡ answer_number answer }
 {

@@ -58,23 +58,12 @@ pub enum Note {
     TooManyFrames,
 }
 
-// One character.
-fn put_byte(out: &mut [u8], at: usize, byte: u8) -> usize
-    ensures { record { next = result; bytes = out.new } ≡ placed out.old at (byte ∷ []) }
-{
-    if at < out.len() {
-        out[at] = byte;
-        return at + 1;
-    }
-    at
-}
-
 // A word, a number after it, and the line's end.
 fn put_last(out: &mut [u8], at: usize, word: &[u8], n: u64) -> usize
     ensures { record { next = result; bytes = out.new } ≡ puts out.old at (word.now ∷ decimal n ∷ line_end ∷ []) }
 {
     let after = text::put_field(out, at, word, n);
-    put_byte(out, after, b'\n')
+    text::put_text(out, after, b"\n")
 }
 
 // Two numbers and the line's end.
@@ -82,9 +71,9 @@ fn put_pair(out: &mut [u8], at: usize, a: u64, b: u64) -> usize
     ensures { record { next = result; bytes = out.new } ≡ puts out.old at (pair a b) }
 {
     let after_a = text::put_decimal(out, at, a);
-    let after_space = put_byte(out, after_a, b' ');
+    let after_space = text::put_text(out, after_a, b" ");
     let after_b = text::put_decimal(out, after_space, b);
-    put_byte(out, after_b, b'\n')
+    text::put_text(out, after_b, b"\n")
 }
 
 // The five numbers of a stop, each after its word, and the line's end.

@@ -76,14 +76,14 @@ fn eligibility_time(stream: Stream, group: Group, bits: Bits, arrival: Ticks) ->
 fn discarded(stream: Stream, group: Group, arrival: Ticks, t: Ticks) -> Judged
     ensures { result ≡ discarded_of stream group arrival.0 t.0 }
 {
-    let discards = group.discards;
-    let mut after = group;
-    after.last = arrival;
-    after.discards = std::num::wrapping_add_u32(discards, 1);
     Judged {
         answer: Answer::Discarded(t),
         stream,
-        group: after,
+        group: Group {
+            last: arrival,
+            discards: group.discards.wrapping_add(1),
+            ..group
+        },
     }
 }
 
@@ -91,20 +91,17 @@ fn released(stream: Stream, group: Group, bits: Bits, arrival: Ticks, t: Ticks) 
     requires { Works stream.rate.0 stream.regulator bits.0 × (t.0 ≤ latest_release) }
     ensures { result ≡ released_of stream group bits.0 arrival.0 t.0 }
 {
-    let id = stream.group;
-    let rate = stream.rate;
-    let regulator = stream.regulator;
-    let mut after = group;
-    after.time = t;
-    after.last = arrival;
     Judged {
         answer: Answer::Released(t),
         stream: Stream {
-            group: id,
-            rate,
-            regulator: regulator_after(rate, regulator, bits, t),
+            regulator: regulator_after(stream.rate, stream.regulator, bits, t),
+            ..stream
         },
-        group: after,
+        group: Group {
+            time: t,
+            last: arrival,
+            ..group
+        },
     }
 }
 

@@ -48,13 +48,13 @@ pub enum Reading {
 }
 
 // The marks: two bytes before each record, which are also its letters.
-pub const GROUP_MARK: [u8; 2] = [0x47, 0x52];
+pub const GROUP_MARK: [u8; 2] = *b"GR";
 
-pub const GROUP_DEFAULT_MARK: [u8; 2] = [0x47, 0x44];
+pub const GROUP_DEFAULT_MARK: [u8; 2] = *b"GD";
 
-pub const STREAM_MARK: [u8; 2] = [0x53, 0x54];
+pub const STREAM_MARK: [u8; 2] = *b"ST";
 
-pub const FRAME_MARK: [u8; 2] = [0x46, 0x52];
+pub const FRAME_MARK: [u8; 2] = *b"FR";
 
 // The bytes of a record, its mark among them.
 pub const GROUP_BYTES: usize = 12;
@@ -80,7 +80,8 @@ pub fn letters(given: Record) -> [u8; 2]
     }
 }
 
-// Document 01's number for what the reader finds. A call and no `From`: docs/PROMISES.md names it.
+// Document 01's number for what the reader finds. A call and no `From`: `u8::from(reading)` would not say
+// which number.
 pub fn reading_number(reading: Reading) -> u8
     ensures { result ≡ reading_number reading }
 {
@@ -91,7 +92,8 @@ pub fn reading_number(reading: Reading) -> u8
     }
 }
 
-// Document 01's number for what the writer did: so many bytes stand at the front of the lent part, or it refused.
+// Document 01's number for what the writer did: so many bytes stand at the front of the lent part, or it refused. No crate may
+// give `u8` a `From` of the library's Result.
 pub fn written_number(written: Result<usize, Refusal>) -> u8
     ensures { result ≡ written_number written }
 {

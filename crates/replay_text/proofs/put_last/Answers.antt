@@ -9,4 +9,4 @@ use Rattle.replay_text.proofs.put_last.Goals as goal
 pub returns : goal.returns
 unfolding puts
 returns c =
-    c.put_byte.ensures ∙ and_then (_ ∷ _ ∷ []) (line_end ∷ []) _ _ _ _ c.put_field-after.ensures
+    c.put_text.ensures ∙ and_then (_ ∷ _ ∷ []) (line_end ∷ []) _ _ _ _ c.put_field-after.ensures

@@ -9,6 +9,6 @@ use Rattle.replay_text.proofs.put_pair.Goals as goal
 pub returns : goal.returns
 unfolding puts
 returns c =
-    let to_space = c.put_byte-after_space.ensures ∙ and_then (_ ∷ []) (space ∷ []) _ _ _ _ c.put_decimal-after_a.ensures in
+    let to_space = c.put_text-after_space.ensures ∙ and_then (_ ∷ []) (space ∷ []) _ _ _ _ c.put_decimal-after_a.ensures in
     let to-b = c.put_decimal-after_b.ensures ∙ and_then (_ ∷ space ∷ []) (_ ∷ []) _ _ _ _ to_space in
-    c.put_byte.ensures ∙ and_then (_ ∷ space ∷ _ ∷ []) (line_end ∷ []) _ _ _ _ to-b
+    c.put_text.ensures ∙ and_then (_ ∷ space ∷ _ ∷ []) (line_end ∷ []) _ _ _ _ to-b
