@@ -1,11 +1,11 @@
 -- Laws of fields one after the other: at which places their numbers are stored. Assumes nothing.
 use mathlib.Core.Path.{◌≡◌, refl, sym, ap, ◌∙◌}
 use mathlib.Core.List.{List, [], ◌∷◌, ◌++◌}
-use Prim.Native.Nat.{ℕ, suc, ◌+◌, ◌/◌, ◌%◌, ◌^◌, ◌≤◌, ◌<◌}
+use Prim.Native.Nat.{ℕ, suc, ◌+◌, ◌≤◌, ◌<◌}
 use native.Mathlib.Nat.{mod-eq_of_lt, div-one, zero-add}
 use native.Mathlib.Omega.{arith}
 use borrow.Author.Tests.{lt-ltb, le-ltb}
-use lib.ListN.{length, get_or, set, take, drop}
+use lib.ListN.{length, set, take, drop}
 use lib.Seq.{sets, sets-eq, drop-drop}
 use Rattle.std.proofs.lemmas.List.{append_assoc}
 use borrow.Rule.Slice.PartMut.{put_mid}
@@ -13,8 +13,8 @@ use Rattle.quantity.specs.declared.Refusal.TheVariants.{NoRoom}
 use Rattle.tablefile.specs.declared.Record.{Record}
 use Rattle.tablefile.specs.BigEndian.{byte_values, big_endian}
 use Rattle.tablefile.specs.Layout.{mark_width, mark, widths, kind_of, numbers_of, field_bytes, bytes_of, size}
-use Rattle.tablefile.proofs.Numbers.{length_big_endian, big_endian_parts}
-use Rattle.tablefile.proofs.Fields.{mark_is, mark_width_law, bytes_size}
+use Rattle.tablefile.proofs.Numbers.{length_big_endian}
+use Rattle.tablefile.proofs.Fields.{mark_width_law, bytes_size}
 use Rattle.writer.specs.Writer.{write_of, write_to}
 use Rattle.std.proofs.Common.{Ok, Err, ◌-◌, w16, w32, w64}
 use Rattle.std.specs.Int.{to_be_bytes}

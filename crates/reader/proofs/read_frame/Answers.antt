@@ -3,11 +3,11 @@
 use mathlib.Core.Path.{ap, ◌∙◌}
 use Prim.Native.Nat.{◌+◌}
 use native.Mathlib.Omega.{arith}
-use Rattle.std.proofs.Common.{w16, w32, w64}
+use Rattle.std.proofs.Common.{w16, w64}
 use Rattle.std.specs.Int.{from_be_bytes}
 use Rattle.tablefile.proofs.Numbers.{number_one}
 use Rattle.tablefile.specs.Layout.{FR, total, size}
-use Rattle.reader.proofs.FieldsRead.{cut_short, found, in_two, in_four, in_eight}
+use Rattle.reader.proofs.FieldsRead.{cut_short, found, in_two, in_eight}
 use Rattle.reader.proofs.read_frame.Goals as goal
 
 pub returns-then-bytes-place-lt-FRAME_BYTES : goal.returns-then-bytes-place-lt-FRAME_BYTES
