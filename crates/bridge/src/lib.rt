@@ -58,6 +58,50 @@ pub fn fresh() -> Bridge
     }
 }
 
+impl Bridge {
+    // Sets up a group.
+    pub fn set_up_group(&mut self, id: u8, class: u8, residence: Ticks) -> Result<(), Refusal>
+        ensures { record { answer = result; bridge = self.new } ≡ group_called self.old id class residence.0 }
+    {
+        let at = place_of(Item::GroupId, id);
+        let placed = place_group(id, self.groups[at], class, residence);
+        self.groups[at] = placed.after;
+        placed.answer
+    }
+
+    // Sets up a stream in a group.
+    pub fn set_up_stream(
+        &mut self,
+        id: u8,
+        group: u8,
+        rate: Rate,
+        burst: Bits,
+    ) -> Result<(), Refusal>
+        ensures { record { answer = result; bridge = self.new } ≡ stream_called self.old id group rate.0 burst.0 }
+    {
+        let at = place_of(Item::StreamId, id);
+        let of = place_of(Item::GroupId, group);
+        let placed = place_stream(id, self.streams[at], group, self.groups[of], rate, burst);
+        self.streams[at] = placed.after;
+        placed.answer
+    }
+
+    // Judges a frame of a stream.
+    pub fn frame(&mut self, id: u8, octets: u16, arrival: Ticks) -> Answer
+        ensures { record { answer = result; bridge = self.new } ≡ frame_called self.old id octets arrival.0 }
+    {
+        let at = place_of(Item::StreamId, id);
+        let stream = self.streams[at];
+        let of = place_of(Item::GroupId, stream.group);
+        let judged = judge_at(id, stream, self.groups[of], octets, arrival);
+        self.streams[at] = judged.stream;
+        self.groups[of] = judged.group;
+        judged.answer
+    }
+}
+
+// ---- the calls on tables that are given and given back
+
 // Sets up a group.
 pub fn set_up_group(
     mut bridge: Bridge,
@@ -67,13 +111,8 @@ pub fn set_up_group(
 ) -> Called<Result<(), Refusal>>
     ensures { result ≡ group_called bridge id class residence.0 }
 {
-    let at = place_of(Item::GroupId, id);
-    let placed = place_group(id, bridge.groups[at], class, residence);
-    bridge.groups[at] = placed.after;
-    Called {
-        answer: placed.answer,
-        bridge,
-    }
+    let answer = bridge.set_up_group(id, class, residence);
+    Called { answer, bridge }
 }
 
 // Sets up a stream in a group.
@@ -86,35 +125,14 @@ pub fn set_up_stream(
 ) -> Called<Result<(), Refusal>>
     ensures { result ≡ stream_called bridge id group rate.0 burst.0 }
 {
-    let at = place_of(Item::StreamId, id);
-    let of = place_of(Item::GroupId, group);
-    let placed = place_stream(
-        id,
-        bridge.streams[at],
-        group,
-        bridge.groups[of],
-        rate,
-        burst,
-    );
-    bridge.streams[at] = placed.after;
-    Called {
-        answer: placed.answer,
-        bridge,
-    }
+    let answer = bridge.set_up_stream(id, group, rate, burst);
+    Called { answer, bridge }
 }
 
 // Judges a frame of a stream.
 pub fn frame(mut bridge: Bridge, id: u8, octets: u16, arrival: Ticks) -> Called<Answer>
     ensures { result ≡ frame_called bridge id octets arrival.0 }
 {
-    let at = place_of(Item::StreamId, id);
-    let stream = bridge.streams[at];
-    let of = place_of(Item::GroupId, stream.group);
-    let judged = judge_at(id, stream, bridge.groups[of], octets, arrival);
-    bridge.streams[at] = judged.stream;
-    bridge.groups[of] = judged.group;
-    Called {
-        answer: judged.answer,
-        bridge,
-    }
+    let answer = bridge.frame(id, octets, arrival);
+    Called { answer, bridge }
 }

@@ -1,4 +1,3 @@
 pub mod Turns
-pub mod Preparing
 pub mod Parts
 pub mod Promises

@@ -3,13 +3,12 @@
 // programs.
 #![tactic(auto)]
 
-ghost use Rattle.std.specs.Prelude.{◌≡◌, ◌<◌};
-ghost use Rattle.replay_gathering.specs.Gathering.{has_room, task_of, task_for, gather_from, begun};
-ghost use Rattle.replay_gathering.specs.Steps.{task_after, stream_of, group_of, prepared_by};
+ghost use Rattle.std.specs.Prelude.{◌≡◌};
+ghost use Rattle.replay_gathering.specs.Gathering.{has_room, task_of, task_for, called, gather_from, begun};
+ghost use Rattle.replay_gathering.specs.Steps.{task_after};
 
 use bridge::Bridge;
-use quantity::{Bits, Item, Rate, Refusal, Ticks};
-use records::{Group, Stream, WithRecords};
+use quantity::{Bits, Rate, Refusal, Ticks};
 use tablefile::{Reading, Record};
 
 // Why a gathering ended.
@@ -56,9 +55,6 @@ pub enum Task {
         next: usize,
     },
 }
-
-// What a set-up answers, and the stream and the group that it looked at, as it leaves them.
-pub type Prepared = WithRecords<Result<(), Refusal>>;
 
 // What a gathering gives beside the lists.
 #[derive(Clone, Copy)]
@@ -157,58 +153,22 @@ fn next_task(reading: Reading, room: bool, answer: Result<(), Refusal>) -> Task
     }
 }
 
-// The place of the stream that a set-up looks at. A group's looks at none, and leaves stream 0.
-fn stream_at(wanted: Wanted) -> usize
-    ensures place { result ≡ stream_of wanted }
-    ensures within { result < 64 }
-{
-    match wanted {
-        Wanted::Group { .. } => 0,
-        Wanted::Stream { stream, .. } => quantity::place_of(Item::StreamId, stream),
-    }
-}
-
-// The place of the group that it looks at.
-fn group_at(wanted: Wanted) -> usize
-    ensures place { result ≡ group_of wanted }
-    ensures within { result < 16 }
-{
-    match wanted {
-        Wanted::Group { group, .. } => quantity::place_of(Item::GroupId, group),
-        Wanted::Stream { group, .. } => quantity::place_of(Item::GroupId, group),
-    }
-}
-
-// Makes a set-up's call on the stream and the group that it looks at.
-fn prepare(wanted: Wanted, stream: Stream, group: Group) -> Prepared
-    ensures { result ≡ prepared_by wanted stream group }
+// Makes the call that a set-up asks for.
+fn set_up(bridge: &mut Bridge, wanted: Wanted) -> Result<(), Refusal>
+    ensures { record { answer = result; bridge = bridge.new } ≡ called bridge.old wanted }
 {
     match wanted {
         Wanted::Group {
-            group: id,
+            group,
             class,
             residence,
-        } => {
-            let placed = calls::place_group(id, group, class, residence);
-            Prepared {
-                answer: placed.answer,
-                stream,
-                group: placed.after,
-            }
-        }
+        } => bridge.set_up_group(group, class, residence),
         Wanted::Stream {
-            stream: id,
-            group: of,
+            stream,
+            group,
             rate,
             burst,
-        } => {
-            let placed = calls::place_stream(id, stream, of, group, rate, Bits(burst as u64));
-            Prepared {
-                answer: placed.answer,
-                stream: placed.after,
-                group,
-            }
-        }
+        } => bridge.set_up_stream(stream, group, rate, Bits(burst as u64)),
     }
 }
 
@@ -244,12 +204,7 @@ pub fn gather_part(
                 };
             }
             Task::Sets { wanted, next } => {
-                let place = stream_at(wanted);
-                let of = group_at(wanted);
-                let prepared = prepare(wanted, bridge.streams[place], bridge.groups[of]);
-                bridge.streams[place] = prepared.stream;
-                bridge.groups[of] = prepared.group;
-                answer = prepared.answer;
+                answer = set_up(&mut bridge, wanted);
                 at = next;
                 records += 1;
                 continue;

@@ -1,30 +1,37 @@
 -- `listing_part::carry_out` meets its contract: in each arm the call is the arm's. Assumes nothing.
-use mathlib.Core.Path.{sym, ap, ◌∙◌}
+use mathlib.Core.Path.{ap}
 use Rattle.listing_part.specs.Records.{call_of}
-use Rattle.listing_part.specs.Steps.{carried_out}
-use Rattle.tablefile.specs.declared.Record.{Record}
+use Rattle.listing_part.proofs.Calls.{group_made, stream_made, frame_made}
 use Rattle.listing_part.proofs.carry_out.Goals as goal
 
-pub returns-in-Group : goal.returns-in-Group
-unfolding call_of carried_out
-returns-in-Group c =
-    let a = c.args in
-    c.carry_group.ensures ∙ sym (ap (λ (r : Record). carried_out (call_of r) a.stream a.group) c.in-Group.is)
+pub returns-in-Group-clause-after : goal.returns-in-Group-clause-after
+unfolding call_of
+returns-in-Group-clause-after c = (group_made _ _ _ _ _ _ (ap call_of c.in-Group.is) _ c.set_up_group.ensures c.set_up_answer.ensures).after
 
-pub returns-in-GroupDefault : goal.returns-in-GroupDefault
-unfolding call_of carried_out
-returns-in-GroupDefault c =
-    let a = c.args in
-    c.carry_group-in-GroupDefault.ensures ∙ sym (ap (λ (r : Record). carried_out (call_of r) a.stream a.group) c.in-GroupDefault.is)
+pub returns-in-Group-clause-replies : goal.returns-in-Group-clause-replies
+unfolding call_of
+returns-in-Group-clause-replies c = (group_made _ _ _ _ _ _ (ap call_of c.in-Group.is) _ c.set_up_group.ensures c.set_up_answer.ensures).replies
 
-pub returns-in-Stream : goal.returns-in-Stream
-unfolding call_of carried_out
-returns-in-Stream c =
-    let a = c.args in
-    c.carry_stream.ensures ∙ sym (ap (λ (r : Record). carried_out (call_of r) a.stream a.group) c.in-Stream.is)
+pub returns-in-GroupDefault-clause-after : goal.returns-in-GroupDefault-clause-after
+unfolding call_of
+returns-in-GroupDefault-clause-after c = (group_made _ _ _ _ _ _ (ap call_of c.in-GroupDefault.is) _ c.set_up_group-in-GroupDefault.ensures c.set_up_answer-in-GroupDefault.ensures).after
 
-pub returns-in-Frame : goal.returns-in-Frame
-unfolding call_of carried_out
-returns-in-Frame c =
-    let a = c.args in
-    c.carry_frame.ensures ∙ sym (ap (λ (r : Record). carried_out (call_of r) a.stream a.group) c.in-Frame.is)
+pub returns-in-GroupDefault-clause-replies : goal.returns-in-GroupDefault-clause-replies
+unfolding call_of
+returns-in-GroupDefault-clause-replies c = (group_made _ _ _ _ _ _ (ap call_of c.in-GroupDefault.is) _ c.set_up_group-in-GroupDefault.ensures c.set_up_answer-in-GroupDefault.ensures).replies
+
+pub returns-in-Stream-clause-after : goal.returns-in-Stream-clause-after
+unfolding call_of
+returns-in-Stream-clause-after c = (stream_made _ _ _ _ _ _ _ (ap call_of c.in-Stream.is) _ c.set_up_stream.ensures c.set_up_answer-in-Stream.ensures).after
+
+pub returns-in-Stream-clause-replies : goal.returns-in-Stream-clause-replies
+unfolding call_of
+returns-in-Stream-clause-replies c = (stream_made _ _ _ _ _ _ _ (ap call_of c.in-Stream.is) _ c.set_up_stream.ensures c.set_up_answer-in-Stream.ensures).replies
+
+pub returns-in-Frame-clause-after : goal.returns-in-Frame-clause-after
+unfolding call_of
+returns-in-Frame-clause-after c = (frame_made _ _ _ _ _ _ (ap call_of c.in-Frame.is) _ c.frame.ensures c.frame_answer.ensures).after
+
+pub returns-in-Frame-clause-replies : goal.returns-in-Frame-clause-replies
+unfolding call_of
+returns-in-Frame-clause-replies c = (frame_made _ _ _ _ _ _ (ap call_of c.in-Frame.is) _ c.frame.ensures c.frame_answer.ensures).replies

@@ -4,7 +4,6 @@ use Prim.Native.Nat.{◌-◌, ◌≤◌, ◌<◌}
 use native.Mathlib.Omega.{arith}
 use lib.ListN.{length}
 use Rattle.listing_part.proofs.Stepping.{Going, going}
-use Rattle.listing_part.proofs.Calls.{call_after, call_replies}
 use Rattle.listing_part.proofs.Underway.{starts, stops, goes_further, turns}
 use Rattle.listing_part.proofs.list_part.Goals as goal
 
@@ -31,7 +30,7 @@ pub loop-why-preserved : goal.loop-why-preserved
 loop-why-preserved c =
     let goes : let l = c.loop-why in Going c.read-reading.result l.number (length l.out - l.written) c.in-Goes.record c.in-Goes.next = going _ _ _ _ _ (sym c.in-Goes.is ∙ c.next_step-step.ensures) in
     turns _ _ _ _ _ _ _ _ _ c.loop-why.invariant _ c.read-reading.ensures _ _ goes
-    _ (call_after _ _ _ _ _ _ c.place_of-at.ensures.place c.stream_of.ensures c.place_of-of.ensures.place c.group_of.ensures _ c.carry_out-carried.ensures)
+    _ c.carry_out-answer.ensures.after
     _ c.letters.ensures
-    _ (call_replies _ _ _ _ _ _ c.place_of-at.ensures.place c.stream_of.ensures c.place_of-of.ensures.place c.group_of.ensures _ c.carry_out-carried.ensures)
+    _ c.carry_out-answer.ensures.replies
     c.put_line-written.ensures

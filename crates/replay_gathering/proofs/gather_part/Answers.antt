@@ -5,7 +5,6 @@ use native.Mathlib.Omega.{arith}
 use lib.ListN.{length}
 use Rattle.replay_gathering.specs.Gathering.{ended, begun, set_up_taken, frame_taken}
 use Rattle.replay_gathering.proofs.Turns.{starts, Room, Turn, turn, turn_ends, sets_within, turn_sets, frame_room, frame_within, turn_takes}
-use Rattle.replay_gathering.proofs.Preparing.{call_is}
 use Rattle.replay_gathering.proofs.gather_part.Goals as goal
 
 pub loop-why-init : goal.loop-why-init
@@ -30,7 +29,7 @@ unfolding set_up_taken begun
 loop-why-preserved-in-Sets c =
     let here : let l = c.loop-why in let a = c.args in Turn a.bytes.now (begun a.bridge a.arrivals.now a.ids.now a.octets.now a.count) l.answer (record { at = l.at; records = l.records; count = l.count; bridge = l.bridge; arrivals = l.arrivals; ids = l.ids; octets = l.octets }) c.next_task-task.result = turn _ _ _ _ c.loop-why.invariant.0 _ c.has_room-room.ensures _ c.read-reading.ensures _ c.next_task-task.ensures in
     let l = c.loop-why in
-    (turn_sets here _ _ c.in-Sets.is _ (call_is _ _ _ _ c.stream_at-place.ensures.place c.group_at-of.ensures.place _ c.prepare-prepared.ensures), l.invariant.1)
+    (turn_sets here _ _ c.in-Sets.is _ c.set_up-answer.ensures, l.invariant.1)
 
 pub offset_bounds-arrivals-count : goal.offset_bounds-arrivals-count
 unfolding begun
