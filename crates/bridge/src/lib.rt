@@ -23,7 +23,7 @@ pub struct Called<A> {
     pub bridge: Bridge,
 }
 
-// A group's record that is not set up.
+// A group's record that is not set up. No `Default`: clauses and theorems name it, `no_group`.
 fn no_group() -> Group
     ensures { result ≡ no_group }
 {
@@ -37,7 +37,7 @@ fn no_group() -> Group
     }
 }
 
-// A stream's record that is not set up.
+// A stream's record that is not set up, `no_stream`.
 fn no_stream() -> Stream
     ensures { result ≡ no_stream }
 {

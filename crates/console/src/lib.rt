@@ -17,7 +17,7 @@ use intake::{Held, Unread};
 use std::io::{ErrorKind, Read, Write};
 use std::{io, thread};
 
-// A call that a signal interrupted before it moved a byte.
+// The system's numbers, since `only_waits` judges a number: a call that a signal interrupted before it moved a byte.
 const INTERRUPTED: i32 = 4;
 
 // A call on what is not ready, and is not to be waited for.
@@ -40,7 +40,7 @@ pub struct Came {
 }
 
 // What was written of bytes that were not all written, and the number of the last call's error, which is 0 where it had
-// none.
+// none: the line that says so has the system's words for 0, too.
 #[derive(Clone, Copy)]
 pub struct Unwritten {
     pub count: usize,

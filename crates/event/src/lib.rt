@@ -66,7 +66,7 @@ fn pick_step(moment: u64, left: u64, picks: usize, handles: usize, moments: usiz
     Step::Pick(Ticks(moment))
 }
 
-// What a run does next, with so many events left of its budget.
+// What a run does next, with so many events left of its budget. The numbers come one by one, as `step_for` has them.
 pub fn next_step(
     arrivals: &[u64],
     next: usize,

@@ -41,6 +41,7 @@ fn say<W: Write>(out: &mut W, what: &[u8], n: u64) {
 
 // ---- answers as numbers
 
+// What is printed: 0 where there is no time.
 fn framed_time(answer: Answer) -> u64 {
     match answer {
         Answer::Released(t) => t.0,
@@ -65,7 +66,7 @@ fn picked_number(answer: Picked) -> u8
     }
 }
 
-// The handle of the entry that leaves.
+// The handle of the entry that leaves, or what is printed where none does.
 fn picked_handle(answer: Picked) -> u32 {
     match answer {
         Picked::Leaves { entry, .. } => entry.handle,

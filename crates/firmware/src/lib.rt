@@ -68,7 +68,8 @@ pub struct FrameTold {
     pub group: GroupRecord,
 }
 
-// A number that fits no id and no class stays out of range.
+// A number that fits no id and no class stays out of range. Two functions of a line each: no trait has both the bound and
+// the conversion.
 fn byte(n: u64) -> u8
     ensures { result ≡ min n most_of_byte }
 {
@@ -257,7 +258,7 @@ pub fn aldurretx_set_up_stream(
     told.number
 }
 
-// `receive` on the records that C lends: the answer's number back, T behind `time`.
+// `receive` on the records that C lends, which C has to name, so that it is carried here again: the answer's number back, T behind `time`.
 pub fn aldurretx_receive(
     id: u64,
     group: &mut GroupRecord,

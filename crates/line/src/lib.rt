@@ -152,6 +152,7 @@ impl Queues {
         };
         let left = self.waiting.take_out(due.class, due.place);
         self.firsts[due.class as usize] = noted(&self.waiting, due.class);
+        // As `classes::pick_in_place` makes it: two arms, and no plainer as a call of another room.
         match left {
             Some(entry) => Picked::Leaves {
                 class: due.class,

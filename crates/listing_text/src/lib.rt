@@ -1,5 +1,6 @@
 // The text of the listing in lent bytes: the line of a record, and what ends a listing.
-// Decimal numbers are `text`'s; which answer a line shows is `listing_part`'s.
+// Decimal numbers are `text`'s; which answer a line shows is `listing_part`'s. Bytes and place go one by one, and what is put
+// is no `Display`: see `text`.
 #![tactic(auto)]
 
 ghost use Rattle.std.specs.Prelude.{◌≡◌, [], ◌∷◌, ◌++◌, ◌+◌, ◌≤◌, ◌<◌, length, get_or};

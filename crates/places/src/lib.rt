@@ -53,7 +53,8 @@ pub struct After<A> {
 }
 
 impl Waiting {
-    // Puts an entry last into a class, where it has room, and says whether it did; what the entry holds is not tested.
+    // Puts an entry last into a class, where it has room, and says whether it did, as `put_gives` does; what the entry holds
+    // is not tested.
     pub fn put(&mut self, class: u8, entry: Entry) -> bool
         ensures { record { placed = result; waiting = self.new } ≡ put_gives self.old class entry }
     {

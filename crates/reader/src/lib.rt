@@ -27,7 +27,8 @@ fn is_marked(bytes: &[u8], place: usize, mark: [u8; 2]) -> bool
     [bytes[place], bytes[place + 1]] == mark
 }
 
-// What stands at a place after the mark of each kind: a record, or one that is cut short.
+// What stands at a place after the mark of each kind: a record, or one that is cut short. The place goes with the bytes, and
+// each asks that the mark is in them: a slice behind the mark would not know that the place after the record fits its number.
 fn read_group(bytes: &[u8], place: usize) -> Reading
     requires { place + mark_width ≤ length bytes.now }
     ensures { result ≡ read_fields GR (drop (place + mark_width) bytes.now) place }
@@ -96,7 +97,7 @@ fn read_frame(bytes: &[u8], place: usize) -> Reading
     }
 }
 
-// What stands at a place. Frames come first, since most records are frames.
+// What stands at a place: test by test and no match of the two bytes, with frames first, since most records are frames.
 pub fn read(bytes: &[u8], place: usize) -> Reading
     ensures { result ≡ read_at bytes.now place }
 {

@@ -279,7 +279,8 @@ fn run_table<W: Write, E: Write>(
     );
 }
 
-// Reads the table file and, where the whole of it could be read, runs it.
+// Reads the table file and, where the whole of it could be read, runs it. The system's three ends go one by one: each is of
+// its own type, and a struct of them would carry three parameters instead.
 fn replay<R: Read, W: Write, E: Write>(
     stdin: &mut R,
     stdout: &mut W,

@@ -116,7 +116,8 @@ fn next_after(from: usize, k: usize, lines: usize) -> Next
     }
 }
 
-// Puts the lines of an account at the front of `out`, from a number on, as far as the longest line has room.
+// Puts the lines of an account at the front of `out`, from a number on, as far as the longest line has room. The lists come
+// one by one, as `line::run` fills them.
 pub fn put_part(
     out: &mut [u8],
     account: Account,

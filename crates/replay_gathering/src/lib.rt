@@ -174,6 +174,7 @@ fn set_up(bridge: &mut Bridge, wanted: Wanted) -> Result<(), Refusal>
 
 // Goes from record to record of the lent bytes: sets up groups and streams, and puts frames at the next places of the
 // lists, from `count` on. Ends where no record stands, after a set-up that was refused, or at a frame that has no place.
+// The three lists are lent one by one: where a struct lends them, a caller's proof does not close (as in `text`).
 pub fn gather_part(
     bytes: &[u8],
     mut bridge: Bridge,

@@ -1,6 +1,8 @@
 // The account of a run: the lines that a replay prints, and what it says of the records that it reads, put into lent
 // bytes. Decimal numbers are `text`'s; the run that the lines tell of is `line`'s. Input and output live with the
 // programs.
+// Bytes and place go one by one, and what is put is no `Display`: see `text`. The numbers of a line and of a note are
+// document 01's, as the lists of a run and a whole file's reading (`ended_at`) have them.
 #![tactic(auto)]
 
 ghost use Rattle.std.specs.Prelude.{◌≡◌, [], ◌∷◌};

@@ -22,7 +22,7 @@ pub struct Standing {
     pub bytes: u64,
     // How many places of the lists are taken.
     pub count: usize,
-    // The file has ended after a whole record, and all of it was taken.
+    // The file has ended after a whole record, and all of it was taken. A flag: `HasGathered` and `whole_by` speak of it.
     pub whole: bool,
     // What of the input stands in the buffer and is still to be gathered.
     pub held: Held,
@@ -140,7 +140,8 @@ fn is_ready(held: Held, records: u64, bytes: u64, size: usize, room: usize) -> b
     room >= replay_text::LINE_ROOM && can_count(records, bytes, n as u64)
 }
 
-// Makes one turn. Where it cannot be made, nothing changes and it fails.
+// Makes one turn. Where it cannot be made, nothing changes and it fails. The lists are lent one by one, as to
+// `replay_gathering::gather_part`.
 pub fn turn(
     input: &mut [u8],
     notes: &mut [u8],

@@ -21,7 +21,8 @@ fn charged_to(empty: Moment, rate: Rate, bits: Bits) -> Moment
     later(empty, lasting(bits, rate), rate)
 }
 
-// The smallest whole tick at which the regulator lets a frame go.
+// The smallest whole tick at which the regulator lets a frame go. What `Works` says of it is no type's invariant: the record
+// that is lent may be unsound, and the tests have shown it (`test_frame`).
 fn earliest_tick(rate: Rate, regulator: Regulator, bits: Bits) -> Ticks
     requires { Works rate.0 regulator bits.0 }
     ensures { result.0 ≡ earliest rate.0 regulator bits.0 }

@@ -44,7 +44,9 @@ fn put_digits(out: &mut [u8], end: usize, k: usize, n: u64)
     }
 }
 
-// The bytes and the place stay two: of a struct that lends them, a caller's proof knows the bytes in the end only by names that the kit keeps for itself.
+// The bytes and the place stay two: where a struct lends them, a caller's proof does not close, since it knows the bytes in
+// the end only by names that the kit keeps for itself. And what is put is no `Display`: a text is put whole or not at all,
+// and the next place comes back (`placed`); what is read is clipped and not refused (`numeral_of`).
 
 // Puts a number in decimal at a place.
 pub fn put_decimal(out: &mut [u8], at: usize, n: u64) -> usize

@@ -9,7 +9,7 @@ ghost use Rattle.classes.specs.Calls.{enter_gives, pick_gives};
 use places::{After, Entry, Picked, Waiting};
 use quantity::{Refusal, Ticks};
 
-// The places at the start: nothing waits.
+// The places at the start: nothing waits. No `Default`: clauses and theorems name it, `nothing`.
 pub fn empty() -> Waiting
     ensures { result ≡ nothing }
 {
