@@ -102,17 +102,24 @@ impl Bridge {
 
 // ---- the calls on tables that are given and given back
 
-// Sets up a group.
+// Sets up a group. On the groups alone and not by the method: lent to it, the streams would be copied for a call that only hands
+// them on, which took four times as long.
 pub fn set_up_group(
-    mut bridge: Bridge,
+    bridge: Bridge,
     id: u8,
     class: u8,
     residence: Ticks,
 ) -> Called<Result<(), Refusal>>
     ensures { result ≡ group_called bridge id class residence.0 }
 {
-    let answer = bridge.set_up_group(id, class, residence);
-    Called { answer, bridge }
+    let mut groups = bridge.groups;
+    let at = place_of(Item::GroupId, id);
+    let placed = place_group(id, groups[at], class, residence);
+    groups[at] = placed.after;
+    Called {
+        answer: placed.answer,
+        bridge: Bridge { groups, ..bridge },
+    }
 }
 
 // Sets up a stream in a group.

@@ -1,15 +1,17 @@
 -- Laws of what went to a writer, call after call. Assumes nothing.
-use Rattle.std.proofs.Common.{◌≡◌, ℕ, ◌+◌, ◌-◌, ◌≤◌, min, ℤ, List, ◌++◌, length, take, drop, Option, Result, Ok, Err, refl, sym, ap, ◌∙◌, subst}
+use Rattle.std.proofs.Common.{◌≡◌, ℕ, ◌+◌, ◌-◌, ◌≤◌, min, ℤ, pos, List, ◌++◌, length, take, drop, Option, Result, Ok, Err, refl, sym, ap, ◌∙◌, subst}
 use Rattle.std.specs.Prelude.{⊤}
 use Rattle.std.proofs.Math.Seq.{take-append-add}
 use Rattle.std.proofs.lemmas.List.{take-append-drop, length-take-le, take_min, length-drop, take_all}
 use Rattle.std.specs.Io.KnownBytes.{Appends}
 use Rattle.std.proofs.KnownBytes.{Appends-trans, Appends-kept}
+use Rattle.std.proofs.lemmas.Bool.{le-leb}
+use Rattle.std.proofs.Math.Nat.{le_refl}
 use lib.Dec.{leb}
 use borrow.Author.Tests.{leb-true, leb-false}
 use mathlib.Core.Bool.{Bool, true, false, cond}
 use Rattle.console.specs.declared.Unwritten.{Unwritten}
-use Rattle.console.specs.Calls.{further, WentTo, written_to, Wrote}
+use Rattle.console.specs.Calls.{further, WentTo, written_to, count_of, error_of, Wrote}
 
 take_and : (n m : ℕ) (xs : List ℕ) → n ≤ length xs → take n xs ++ take m (drop n xs) ≡ take (n + m) xs
 take_and n m xs h =
@@ -33,3 +35,14 @@ wrote a b xs at e r h f w = subst (Wrote a b xs) (sym w) (go (leb (length xs) at
     go : (t : Bool) → leb (length xs) at ≡ t → Wrote a b xs (cond t (Ok tt) (Err (record { count = at; error = e })))
     go true z = subst (Appends a b) (take_all at xs (leb-true (length xs) at z)) f
     go false z = (leb-false (length xs) at z, f)
+
+-- by what it hands back it is one
+pub handed_back : (size at : ℕ) (e : ℤ) (r : Result ⊤ Unwritten) → r ≡ written_to at size e → r ≡ written_to (count_of size r) size (error_of r)
+handed_back size at e r w = subst (λ (x : Result ⊤ Unwritten). x ≡ written_to (count_of size x) size (error_of x)) (sym w) (go (leb size at) refl)
+  where
+    result : Bool → Result ⊤ Unwritten
+    result t = cond t (Ok tt) (Err (record { count = at; error = e }))
+
+    go : (t : Bool) → leb size at ≡ t → result t ≡ written_to (count_of size (result t)) size (error_of (result t))
+    go true z = sym (ap (λ t. cond t (Ok tt) (Err (record { count = size; error = pos 0 }))) (le-leb size size (le_refl size)))
+    go false z = sym (ap result z)

@@ -46,6 +46,15 @@ WentTo old new (Err e) bytes = Keeps old new
 abbrev pub written_to : ℕ → ℕ → ℤ → Result ⊤ Unwritten
 written_to at size e = cond (leb size at) (Ok tt) (Err (record { count = at; error = e }))
 
+-- what a writing of so many bytes hands back of the system's answers: how many went, and the last one's error, none where all went
+abbrev pub count_of : ℕ → Result ⊤ Unwritten → ℕ
+count_of size (Ok done) = size
+count_of size (Err part) = part.count
+
+abbrev pub error_of : Result ⊤ Unwritten → ℤ
+error_of (Ok done) = pos 0
+error_of (Err part) = part.error
+
 -- what went to it of bytes that were to be written: all of them, or not all and the first so many
 abbrev pub Wrote : Option (List ℕ) → Option (List ℕ) → List ℕ → Result ⊤ Unwritten → Type 0
 Wrote old new bytes (Ok done) = Appends old new bytes

@@ -10,7 +10,7 @@ ghost use Rattle.std.specs.Io.KnownBytes.{Appends};
 ghost use Rattle.text.specs.Decimal.{decimal};
 ghost use Rattle.text.specs.Puts.{joined, puts};
 ghost use Rattle.console.specs.Answers.{only_waits, unread_by, brought, read_behind};
-ghost use Rattle.console.specs.Calls.{kind_number, error_number, numbered, further, CameFrom, WentTo, written_to, Wrote};
+ghost use Rattle.console.specs.Calls.{kind_number, error_number, numbered, further, CameFrom, WentTo, written_to, count_of, error_of, Wrote};
 ghost use Rattle.console.specs.Failures.{edge_word, failure_parts};
 
 use intake::{Held, Unread};
@@ -222,7 +222,8 @@ fn written_to(at: usize, size: usize, error: i32) -> Result<(), Unwritten>
 // Writes all of the bytes, or as many as can be, and then says how many and what the last call's error was. A proved loop
 // has to end, and nothing says that a device is ever ready: it counts its tries, up to a number that no writing reaches.
 pub fn write_out<W: Write>(out: &mut W, bytes: &[u8]) -> Result<(), Unwritten>
-    ensures { Wrote (W.contents out.old) (W.contents out.new) bytes.now result }
+    ensures handed { result ≡ written_to (count_of (length bytes.now) result) (length bytes.now) (error_of result) }
+    ensures went { Wrote (W.contents out.old) (W.contents out.new) bytes.now result }
 {
     let size = bytes.len();
     let mut at: usize = 0;

@@ -53,6 +53,7 @@ pub fn first_least(waiting: &Waiting, class: u8) -> Option<First>
 }
 
 // The smaller of a time and a class's smallest, where there are such.
+#[tactic(auto, unfolding(crate::specs::Firsts::smaller))]
 fn smaller_of(least: Option<Ticks>, first: Option<First>) -> Option<Ticks>
     ensures { result ≡ smaller least first }
 {

@@ -1,14 +1,15 @@
 -- Laws of fields one after the other: at which places their numbers are read. Assumes nothing.
-use mathlib.Core.Path.{◌≡◌, refl}
+use mathlib.Core.Path.{◌≡◌, refl, sym, ap, ◌∙◌}
 use mathlib.Core.List.{List, [], ◌∷◌}
-use Prim.Native.Nat.{ℕ, ◌+◌, ◌-◌, ◌≤◌, ◌<◌}
+use Prim.Native.Nat.{ℕ, suc, ◌+◌, ◌-◌, ◌≤◌, ◌<◌}
 use native.Mathlib.Nat.{add_assoc}
+use native.Mathlib.Numerals.{add-one}
 use native.Mathlib.Omega.{arith}
 use borrow.Author.Tests.{lt-ltb, le-ltb}
-use lib.ListN.{length, take, drop, length-drop}
+use lib.ListN.{length, take, drop, get_or, length-drop}
 use Rattle.std.specs.Int.{from_be_bytes}
 use Rattle.std.proofs.Common.{w16, w32, w64}
-use lib.Seq.{drop-drop, length-take-le}
+use lib.Seq.{drop-cons, drop-drop, length-take-le}
 use Rattle.quantity.specs.declared.Refusal.TheVariants.{CutShort}
 use Rattle.tablefile.specs.BigEndian.{number, number_at}
 use Rattle.tablefile.specs.Layout.{Kind, mark_width, widths, record_of, total, field_numbers, size}
@@ -73,6 +74,14 @@ module _ (l : List ℕ) (p : ℕ) where
   pub in_two : p + 2 ≤ length l → from_be_bytes w16 (take 2 (drop p l)) ≡ number_at l p 2
   unfolding number_at
   in_two m = two (take 2 (drop p l)) (taken 2 m)
+
+  -- the same of the bytes of two places
+  pub two_at : (q : ℕ) → q ≡ p + 1 → p + 2 ≤ length l → from_be_bytes w16 (get_or l p 0 ∷ get_or l q 0 ∷ []) ≡ number_at l p 2
+  two_at q e m =
+      let here : drop p l ≡ get_or l p 0 ∷ drop (p + 1) l = rw (add-one p) (drop-cons l p 0 (omega arith)) in
+      let behind : drop (p + 1) l ≡ get_or l (p + 1) 0 ∷ drop (suc (p + 1)) l = drop-cons l (p + 1) 0 (omega arith) in
+      let both : take 2 (drop p l) ≡ get_or l p 0 ∷ get_or l (p + 1) 0 ∷ [] = ap (take 2) (here ∙ ap (λ bs. get_or l p 0 ∷ bs) behind) in
+      rw e (ap (from_be_bytes w16) (sym both) ∙ in_two m)
 
   pub in_four : p + 4 ≤ length l → from_be_bytes w32 (take 4 (drop p l)) ≡ number_at l p 4
   unfolding number_at

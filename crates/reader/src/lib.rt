@@ -90,7 +90,7 @@ fn read_frame(bytes: &[u8], place: usize) -> Reading
     Reading::Found {
         record: Record::Frame {
             stream: bytes[place + 2],
-            octets: u16::from_be_bytes(field(bytes, place + 3)),
+            octets: u16::from_be_bytes([bytes[place + 3], bytes[place + 4]]),
             arrival: Ticks(u64::from_be_bytes(field(bytes, place + 5))),
         },
         next: place + tablefile::FRAME_BYTES,

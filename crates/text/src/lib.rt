@@ -62,6 +62,7 @@ pub fn put_decimal(out: &mut [u8], at: usize, n: u64) -> usize
 }
 
 // Puts a text at a place.
+#[tactic(auto, using(crate::proofs::Stores::no_room, crate::proofs::Stores::copied))]
 pub fn put_text(out: &mut [u8], at: usize, text: &[u8]) -> usize
     ensures { record { next = result; bytes = out.new } ≡ placed out.old at text.now }
 {

@@ -3,11 +3,11 @@
 use mathlib.Core.Path.{ap, ◌∙◌}
 use Prim.Native.Nat.{◌+◌}
 use native.Mathlib.Omega.{arith}
-use Rattle.std.proofs.Common.{w16, w64}
+use Rattle.std.proofs.Common.{w64}
 use Rattle.std.specs.Int.{from_be_bytes}
 use Rattle.tablefile.proofs.Numbers.{number_one}
 use Rattle.tablefile.specs.Layout.{FR, total, size}
-use Rattle.reader.proofs.FieldsRead.{cut_short, found, in_two, in_eight}
+use Rattle.reader.proofs.FieldsRead.{cut_short, found, two_at, in_eight}
 use Rattle.reader.proofs.read_frame.Goals as goal
 
 pub returns-then-bytes-place-lt-FRAME_BYTES : goal.returns-then-bytes-place-lt-FRAME_BYTES
@@ -22,7 +22,7 @@ returns c =
     let a = c.args in
     rw (
       ← number_one a.bytes.now (a.place + 2) (omega arith),
-      c.from_be_bytes.ensures ∙ ap (λ bs. from_be_bytes w16 bs) c.field.ensures ∙ in_two a.bytes.now (a.place + 3) (omega arith),
-      c.from_be_bytes-2.ensures ∙ ap (λ bs. from_be_bytes w64 bs) c.field-2.ensures ∙ in_eight a.bytes.now (a.place + 5) (omega arith),
+      c.from_be_bytes.ensures ∙ two_at a.bytes.now (a.place + 3) (a.place + 4) (omega arith) (omega arith),
+      c.from_be_bytes-2.ensures ∙ ap (λ bs. from_be_bytes w64 bs) c.field.ensures ∙ in_eight a.bytes.now (a.place + 5) (omega arith),
     )
     (found FR a.bytes.now a.place (omega arith))
